@@ -1,0 +1,5 @@
+# make test: the gate.
+.PHONY: test
+
+test:
+	@rt ci

@@ -1,0 +1,73 @@
+-- Laws of CRC_A: the standard's examples, the two loops' turns and ends, and that bytes with their CRC_A behind them are right.
+-- Assumes nothing.
+use mathlib.Core.Path.{_≡_, refl, sym, ap, ap₂, _∙_}
+use mathlib.Core.List.{List, [], _∷_, _++_}
+use mathlib.Core.Bool.{Bool, true, false}
+use Prim.Native.Nat.{ℕ, suc, _+_, _-_, _*_, _/_, _%_, _≤_, _<_}
+use native.Mathlib.Nat.{add-zero}
+use native.Mathlib.Numerals.{add-one}
+use native.Mathlib.Omega.{arith}
+use lib.Bits.{bitXor}
+use lib.ListN.{length, take, drop, getD, set, length-append, drop-of-length-le}
+use lib.Seq.{sets, take-at, drop-cons, getD-append-add}
+use borrow.Author.Tests.{le-leb, lt-leb, eq-eqb}
+use lib.Dec.{eqb}
+use Rattle.crc_a.specs.CrcA.{polynomial, start, shifted, shiftedBy, byteIn, bytesIn, crcA, sent, withCrc, crcRight, StandardExamples}
+
+pub standard-examples : StandardExamples
+unfolding polynomial start shifted shiftedBy byteIn bytesIn crcA sent withCrc
+standard-examples = record { zeros = refl; counted = refl }
+
+-- ---- eight shifts: what is left of them, from the register so far, comes to the whole byte's
+
+pub shift-turn : (c b k register next : ℕ) → k < 8 → shiftedBy (8 - k) register ≡ byteIn c b → next ≡ shifted register → shiftedBy (8 - (k + 1)) next ≡ byteIn c b
+unfolding shiftedBy
+shift-turn c b k register next l h e =
+    let n : 8 - k ≡ suc (8 - (k + 1)) = omega arith in
+    rw e (ap (λ (m : ℕ). shiftedBy m register) (sym n) ∙ h)
+
+pub shift-end : (c b k register : ℕ) → 8 ≤ k → shiftedBy (8 - k) register ≡ byteIn c b → register ≡ byteIn c b
+unfolding shiftedBy
+shift-end c b k register l h =
+    let n : 8 - k ≡ 0 = omega arith in
+    ap (λ (m : ℕ). shiftedBy m register) (sym n) ∙ h
+
+-- ---- the bytes: what is left of them, from the register so far, comes to the whole's
+
+pub byte-turn : (bytes : List ℕ) (i register next : ℕ) → i < length bytes → bytesIn register (drop i bytes) ≡ crcA bytes → next ≡ byteIn register (getD bytes i 0)
+    → bytesIn next (drop (i + 1) bytes) ≡ crcA bytes
+unfolding bytesIn
+byte-turn bytes i register next l h e = rw (e, add-one) (ap (bytesIn register) (sym (drop-cons bytes i 0 l)) ∙ h)
+
+pub byte-end : (bytes : List ℕ) (i register : ℕ) → length bytes ≤ i → bytesIn register (drop i bytes) ≡ crcA bytes → register ≡ crcA bytes
+unfolding bytesIn
+byte-end bytes i register l h = ap (bytesIn register) (sym (drop-of-length-le bytes l)) ∙ h
+
+-- ---- behind a buffer's bytes
+
+pub appended : (buffer : List ℕ) (n c : ℕ) → c ≡ crcA (take n buffer) → set (set buffer n (c % 256)) (n + 1) (c / 256) ≡ sets buffer n (sent (crcA (take n buffer)))
+unfolding sent
+appended buffer n c e = rw (← e, add-one)
+
+-- ---- a frame's end
+
+pub too-short : (frame : List ℕ) → length frame < 2 → false ≡ crcRight frame
+unfolding crcRight
+too-short frame l = simp (lt-leb _ _ l)
+
+pub ends-with : (frame : List ℕ) (end′ lo hi c : ℕ) → 2 ≤ length frame → end′ ≡ length frame - 2
+    → (lo ≡ getD frame end′ 0) × (lo < 256) → (hi ≡ getD frame (end′ + 1) 0) × (hi < 256) → c ≡ crcA (take end′ frame) → eqb (lo + 256 * hi) c ≡ crcRight frame
+unfolding crcRight
+ends-with frame end′ lo hi c l e p q h = rw (p .0, q .0, h, e) (simp (le-leb _ _ l))
+
+-- bytes with their CRC_A behind them
+pub with-crc-right : (bs : List ℕ) → crcRight (withCrc bs) ≡ true
+unfolding crcRight withCrc sent
+with-crc-right bs =
+    let c = crcA bs in
+    let whole = bs ++ (c % 256 ∷ c / 256 ∷ []) in
+    let n : length whole ≡ length bs + 2 = length-append bs (c % 256 ∷ c / 256 ∷ []) in
+    let k : length whole - 2 ≡ length bs = omega arith in
+    let lo : getD whole (length bs) 0 ≡ c % 256 = ap (λ (i : ℕ). getD whole i 0) (sym (add-zero (length bs))) ∙ getD-append-add bs (c % 256 ∷ c / 256 ∷ []) 0 0 in
+    let hi : getD whole (length bs + 1) 0 ≡ c / 256 = getD-append-add bs (c % 256 ∷ c / 256 ∷ []) 1 0 in
+    rw (le-leb 2 (length whole) (omega arith), k, lo, hi, take-at bs (c % 256 ∷ c / 256 ∷ []) (length bs) refl) (eq-eqb (c % 256 + 256 * (c / 256)) c (omega arith))
