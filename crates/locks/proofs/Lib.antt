@@ -1,0 +1,4 @@
+pub mod Bits
+pub mod Gains
+pub mod Table
+pub mod Lock

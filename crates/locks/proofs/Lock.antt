@@ -1,0 +1,173 @@
+-- Which bit locks a page: what a search of a size's rows finds is what document 01's arithmetic says; and a locked page stays locked.
+-- Assumes nothing.
+use mathlib.Core.Path.{_≡_, _∙_, refl, sym, ap, subst}
+use mathlib.Core.Logic.{_⊎_, inl, inr, ⊎-elim}
+use mathlib.Core.Bool.{Bool, true, false, cond, _&&_}
+use Prim.Native.Nat.{ℕ, _+_, _-_, _*_, _/_, _≤_, _<_, min}
+use native.Mathlib.Omega.{arith}
+use lib.Dec.{leb, ltb, eqb}
+use borrow.Author.Tests.{ltb-true, ltb-false, leb-true, eqb-true, eq-eqb, lt-ltb, le-ltb, le-leb, lt-leb}
+use Rattle.locks.specs.Bits.{bitAt, isSet, Gains, ofBits}
+use Rattle.locks.specs.Locks.{Sized, lockPage, lockBits, pagesEach, dynamicBlock, lockOf, setIn, lockedBy, clearAt, mayDynamic}
+use Rattle.locks.specs.Table.{firstPage, lastPage, blockBit, rowFor, rowAt, firstRow, Covers, Finds, mayRow}
+use Rattle.locks.proofs.Bits.{ofBits-zeros}
+use Rattle.locks.specs.declared.Row.{Row}
+use Rattle.locks.specs.declared.LockBit.{LockBit}
+use Rattle.locks.specs.declared.LockBit.the-variants.{Static, Dynamic, Absent}
+
+pub sized-least : {n : ℕ} → Sized n → 45 ≤ n
+sized-least s = ⊎-elim (λ e. omega arith) (λ s. ⊎-elim (λ e. omega arith) (λ e. omega arith) s) s
+
+pub sized-most : {n : ℕ} → Sized n → n ≤ 231
+sized-most s = ⊎-elim (λ e. omega arith) (λ s. ⊎-elim (λ e. omega arith) (λ e. omega arith) s) s
+
+-- what holds of the three sizes holds of each n that is one
+pub by-size : (P : ℕ → Type 0) → P 45 → P 135 → P 231 → {n : ℕ} → Sized n → P n
+by-size P a b c s = ⊎-elim (λ e. subst P (sym e) a) (λ s. ⊎-elim (λ e. subst P (sym e) b) (λ e. subst P (sym e) c) s) s
+
+-- ---- the search of a size's rows
+
+module _ (n start count : ℕ) (rows : (i : ℕ) → i < count → rowAt (start + i) ≡ rowFor n i)
+    (hit : (i p : ℕ) → Covers (rowFor n i) p → (16 ≤ p) × (p < lockPage n) × ((p - 16) / pagesEach n ≡ i))
+    (cover : (p : ℕ) → 16 ≤ p → p < lockPage n → ((p - 16) / pagesEach n < count) × Covers (rowFor n ((p - 16) / pagesEach n)) p) where
+  found-is : (p : ℕ) (r : LockBit) → 16 ≤ p → Finds start count p r → r ≡ lockOf n p
+  unfolding Finds lockOf
+  found-is p (Static i) l f = absurd f
+  found-is p (Dynamic i) l f =
+      let h = hit i p (subst (λ (r : Row). Covers r p) (rows i (f .0)) (f .1)) in
+      simp (le-leb 3 p (omega arith), lt-ltb p (lockPage n) (h .1), le-ltb p 16 l) (ap Dynamic (sym (h .2)))
+  found-is p Absent l f = simp (le-leb 3 p (omega arith)) (outside (ltb p (lockPage n)) refl)
+    where
+      outside : (t : Bool) → ltb p (lockPage n) ≡ t → Absent ≡ cond t (cond (ltb p 16) (Static p) (Dynamic ((p - 16) / pagesEach n))) Absent
+      outside false e = refl
+      outside true e =
+          let h = cover p l (ltb-true p (lockPage n) e) in
+          absurd (f ((p - 16) / pagesEach n) (h .0) (subst (λ (r : Row). Covers r p) (sym (rows ((p - 16) / pagesEach n) (h .0))) (h .1)))
+
+-- the rows of a size stand at its place in the table
+rows-are : (n i : ℕ) → Sized n → i < lockBits n → rowAt (firstRow n + i) ≡ rowFor n i
+unfolding rowAt firstRow lockBits
+rows-are n i s = by-size (λ n. i < lockBits n → rowAt (firstRow n + i) ≡ rowFor n i) at45 at135 at231 s
+  where
+    at45 : i < 12 → rowAt (0 + i) ≡ rowFor 45 i
+    at45 l = let e : 0 + i ≡ i = omega arith in rw (e, lt-ltb i 12 l)
+
+    at135 : i < 8 → rowAt (12 + i) ≡ rowFor 135 i
+    at135 l =
+        let e : 12 + i - 12 ≡ i = omega arith in
+        rw (le-ltb (12 + i) 12 (omega arith), lt-ltb (12 + i) 20 (omega arith), e)
+
+    at231 : i < 14 → rowAt (20 + i) ≡ rowFor 231 i
+    at231 l =
+        let e : 20 + i - 20 ≡ i = omega arith in
+        rw (le-ltb (20 + i) 12 (omega arith), le-ltb (20 + i) 20 (omega arith), e)
+
+rows-hit : (n i p : ℕ) → Sized n → Covers (rowFor n i) p → (16 ≤ p) × (p < lockPage n) × ((p - 16) / pagesEach n ≡ i)
+unfolding rowFor pagesEach
+rows-hit n i p s =
+    by-size (λ n. Covers (rowFor n i) p → (16 ≤ p) × (p < lockPage n) × ((p - 16) / pagesEach n ≡ i))
+    (λ h. omega arith) (λ h. omega arith) (λ h. omega arith) s
+
+rows-cover : (n p : ℕ) → Sized n → 16 ≤ p → p < lockPage n → ((p - 16) / pagesEach n < lockBits n) × Covers (rowFor n ((p - 16) / pagesEach n)) p
+unfolding rowFor pagesEach lockBits
+rows-cover n p s =
+    by-size (λ n. 16 ≤ p → p < lockPage n → ((p - 16) / pagesEach n < lockBits n) × Covers (rowFor n ((p - 16) / pagesEach n)) p)
+    (λ h l. omega arith) (λ h l. omega arith) (λ h l. omega arith) s
+
+-- ---- the rows' block column
+
+pub block-lt : (k : ℕ) → k < 34 → blockBit (rowAt k) < 8
+unfolding rowAt rowFor dynamicBlock
+block-lt k h = pick (ltb k 12) (ltb k 20) refl refl
+  where
+    pick : (s t : Bool) → ltb k 12 ≡ s → ltb k 20 ≡ t → blockBit (cond s (rowFor 45 k) (cond t (rowFor 135 (k - 12)) (rowFor 231 (k - 20)))) < 8
+    pick true t p q = let l = ltb-true k 12 p in omega arith
+    pick false true p q = let l = ltb-true k 20 q in omega arith
+    pick false false p q = omega arith
+
+lockBits≤16 : (n : ℕ) → lockBits n ≤ 16
+unfolding lockBits
+lockBits≤16 n = pick (eqb n 45) (eqb n 135)
+  where
+    pick : (s t : Bool) → cond s 12 (cond t 8 14) ≤ 16
+    pick true t = omega arith
+    pick false true = omega arith
+    pick false false = omega arith
+
+-- the bits that the rows of a size leave open are those that document 01's arithmetic does
+pub rows-open : (n start count blocks mask : ℕ) → Sized n → start ≡ firstRow n → count ≡ lockBits n → mask ≡ ofBits count (mayRow start blocks)
+    → mask ≡ ofBits 16 (mayDynamic n blocks)
+unfolding mayRow mayDynamic rowFor
+rows-open n start count blocks mask s a b e =
+    e ∙ rw (a, b) (ofBits-zeros (lockBits n) 16 (mayRow (firstRow n) blocks) (mayDynamic n blocks) (lockBits≤16 n)
+    (λ i l. ap (λ (r : Row). clearAt blocks (blockBit r)) (rows-are n i s l) ∙ rw (lt-ltb i (lockBits n) l))
+    (λ i l. rw (le-ltb i (lockBits n) l)))
+
+-- ---- what each way through the question shows
+
+pub found-here : (start count i p : ℕ) (r : Row) → i < count → r ≡ rowAt (start + i) → firstPage r ≤ p → p ≤ lastPage r → Finds start count p (Dynamic i)
+unfolding Finds
+found-here start count i p r l e a b = (l, subst (λ (r : Row). Covers r p) e (a, b))
+
+pub no-lock : (n p : ℕ) → p < 3 → Absent ≡ lockOf n p
+unfolding lockOf
+no-lock n p l = simp (lt-leb _ _ l)
+
+pub static-lock : (n p : ℕ) → Sized n → 3 ≤ p → p < 16 → Static p ≡ lockOf n p
+unfolding lockOf
+static-lock n p s h l =
+    let least = sized-least s in
+    simp (le-leb _ _ h, lt-ltb p (lockPage n) (omega arith), lt-ltb _ _ l)
+
+pub dynamic-lock : (n start count p : ℕ) (r : LockBit) → Sized n → start ≡ firstRow n → count ≡ lockBits n → 16 ≤ p → Finds start count p r → r ≡ lockOf n p
+dynamic-lock n start count p r s a b =
+    rw (a, b) (found-is n (firstRow n) (lockBits n) (λ i. rows-are n i s) (λ i p. rows-hit n i p s) (λ p. rows-cover n p s) p r)
+
+-- ---- the lock bit that was found is one of sixteen
+
+bit-of : LockBit → ℕ
+bit-of (Static i) = i
+bit-of (Dynamic i) = i
+bit-of Absent = 0
+
+lock-lt : (n p : ℕ) → Sized n → bit-of (lockOf n p) < 16
+unfolding lockOf pagesEach bit-of
+lock-lt n p = by-size (λ n. bit-of (lockOf n p) < 16) (one 40 2 (λ l. omega arith)) (one 130 16 (λ l. omega arith)) (one 226 16 (λ l. omega arith))
+  where
+    one : (end′ w : ℕ) → (p < end′ → (p - 16) / w < 16) → bit-of (cond (leb 3 p && ltb p end′) (cond (ltb p 16) (Static p) (Dynamic ((p - 16) / w))) Absent) < 16
+    one end′ w h = pick (leb 3 p) (ltb p end′) (ltb p 16) refl refl
+      where
+        pick : (a b t : Bool) → ltb p end′ ≡ b → ltb p 16 ≡ t → bit-of (cond (a && b) (cond t (Static p) (Dynamic ((p - 16) / w))) Absent) < 16
+        pick false b t e f = omega arith
+        pick true false t e f = omega arith
+        pick true true true e f = ltb-true p 16 f
+        pick true true false e f = h (ltb-true p end′ e)
+
+pub static-bit : (n p i : ℕ) (r : LockBit) → Sized n → r ≡ lockOf n p → r ≡ Static i → i < 16
+unfolding bit-of
+static-bit n p i r s e h = subst (λ (b : LockBit). bit-of b < 16) (sym e ∙ h) (lock-lt n p s)
+
+pub dynamic-bit : (n p i : ℕ) (r : LockBit) → Sized n → r ≡ lockOf n p → r ≡ Dynamic i → i < 16
+unfolding bit-of
+dynamic-bit n p i r s e h = subst (λ (b : LockBit). bit-of b < 16) (sym e ∙ h) (lock-lt n p s)
+
+-- ---- the answer
+
+module _ (n statics dynamics p : ℕ) (r : LockBit) (e : r ≡ lockOf n p) where
+  pub asked : (b : Bool) (l : LockBit) → r ≡ l → b ≡ setIn statics dynamics l → b ≡ lockedBy n statics dynamics p
+  unfolding lockedBy
+  asked b l h q = rw (← e, h) q
+
+-- a page once locked stays locked while no lock bit clears
+pub stays-locked : (n p statics dynamics statics′ dynamics′ : ℕ) → Sized n → Gains 16 statics statics′ → Gains 16 dynamics dynamics′
+    → lockedBy n statics dynamics p ≡ true → lockedBy n statics′ dynamics′ p ≡ true
+unfolding lockedBy setIn bit-of
+stays-locked n p statics dynamics statics′ dynamics′ s g h = pick (lockOf n p) (lock-lt n p s)
+  where
+    still : (a b i : ℕ) → bitAt a i ≤ bitAt b i → isSet a i ≡ true → isSet b i ≡ true
+    still a b i l e = eq-eqb (bitAt b i) 1 (omega (arith, eqb-true (bitAt a i) 1 e))
+
+    pick : (l : LockBit) → bit-of l < 16 → setIn statics dynamics l ≡ true → setIn statics′ dynamics′ l ≡ true
+    pick (Static i) l e = still statics statics′ i (g i l) e
+    pick (Dynamic i) l e = still dynamics dynamics′ i (h i l) e
+    pick Absent l e = e

@@ -1,0 +1,215 @@
+// The two kinds of locks as numbers: which bit locks a page, and which bits a WRITE sets.
+ghost use mathlib.Core.Path.{_≡_};
+ghost use Prim.Native.Nat.{ℕ, _+_, _≤_, _<_};
+ghost use Rattle.locks.specs.Bits.{isSet, ofBits};
+ghost use Rattle.locks.specs.Locks.{Sized, lockBits, lockOf, lockedBy, clearAt, gain, mayStatic, staticGain, mayDynamic, dynamicGain, mayBlock, blockGain};
+ghost use Rattle.locks.specs.Table.{rowAt, firstRow, Finds, mayRow};
+
+// The bit that locks a page: of the static row, of the dynamic row, or none.
+pub enum LockBit {
+    Static(usize),
+    Dynamic(usize),
+    Absent,
+}
+
+// First page, last page and block bit of a dynamic lock bit.
+pub struct Row(pub u8, pub u8, pub u8);
+
+// "N=45: twelve bits, two pages each"; "N=135: eight bits, sixteen each, the last only 128-129"; "N=231: fourteen bits, sixteen each,
+// the last only 224-225".
+const TABLE: [Row; 34] = [
+    Row(16, 17, 0),
+    Row(18, 19, 0),
+    Row(20, 21, 1),
+    Row(22, 23, 1),
+    Row(24, 25, 2),
+    Row(26, 27, 2),
+    Row(28, 29, 3),
+    Row(30, 31, 3),
+    Row(32, 33, 4),
+    Row(34, 35, 4),
+    Row(36, 37, 5),
+    Row(38, 39, 5),
+    Row(16, 31, 0),
+    Row(32, 47, 0),
+    Row(48, 63, 1),
+    Row(64, 79, 1),
+    Row(80, 95, 2),
+    Row(96, 111, 2),
+    Row(112, 127, 3),
+    Row(128, 129, 3),
+    Row(16, 31, 0),
+    Row(32, 47, 0),
+    Row(48, 63, 1),
+    Row(64, 79, 1),
+    Row(80, 95, 2),
+    Row(96, 111, 2),
+    Row(112, 127, 3),
+    Row(128, 143, 3),
+    Row(144, 159, 4),
+    Row(160, 175, 4),
+    Row(176, 191, 5),
+    Row(192, 207, 5),
+    Row(208, 223, 6),
+    Row(224, 225, 6),
+];
+
+fn row_at(k: usize) -> Row
+    requires { ⌜ k < 34 ⌝ }
+    ensures { λ r. ⌜ r ≡ rowAt k ⌝ }
+{
+    TABLE[k]
+}
+
+// Where the rows of a size begin, and how many they are.
+struct Rows {
+    start: usize,
+    count: usize,
+}
+
+fn rows_of(n: usize) -> Rows
+    ensures { λ r. ⌜ (r .start ≡ firstRow n) × (r .count ≡ lockBits n) × (r .start + r .count ≤ 34) × (r .count ≤ 14) ⌝ }
+{
+    match n {
+        45 => Rows {
+            start: 0,
+            count: 12,
+        },
+        135 => Rows {
+            start: 12,
+            count: 8,
+        },
+        _ => Rows {
+            start: 20,
+            count: 14,
+        },
+    }
+}
+
+// The first of these rows that has the page.
+fn find(start: usize, count: usize, page: usize) -> LockBit
+    requires { ⌜ start + count ≤ 34 ⌝ }
+    ensures { λ r. ⌜ Finds start count page r ⌝ }
+{
+    let mut i: usize = 0;
+    while i < count {
+        let row = row_at(start + i);
+        let first = row.0 as usize;
+        let last = row.1 as usize;
+        if first <= page {
+            if page <= last {
+                return LockBit::Dynamic(i);
+            }
+        }
+        i += 1;
+    }
+    LockBit::Absent
+}
+
+// The bit that locks a page, at n pages.
+pub fn lock_of(n: usize, page: usize) -> LockBit
+    requires { ⌜ Sized n ⌝ }
+    ensures { λ r. ⌜ r ≡ lockOf n page ⌝ }
+{
+    match page {
+        0..=2 => LockBit::Absent,
+        3..=15 => LockBit::Static(page),
+        _ => {
+            let rows = rows_of(n);
+            find(rows.start, rows.count, page)
+        }
+    }
+}
+
+// Bit i of a row.
+pub fn is_set(row: u16, i: usize) -> bool
+    requires { ⌜ i < 16 ⌝ }
+    ensures { λ r. ⌜ r ≡ isSet row i ⌝ }
+{
+    (row >> i) % 2 == 1
+}
+
+// Whether a page is locked, by the two rows.
+pub fn is_locked(n: usize, statics: u16, dynamics: u16, page: usize) -> bool
+    requires { ⌜ Sized n ⌝ }
+    ensures { λ r. ⌜ r ≡ lockedBy n statics dynamics page ⌝ }
+{
+    let lock = lock_of(n, page);
+    match lock {
+        LockBit::Static(i) => is_set(statics, i),
+        LockBit::Dynamic(i) => is_set(dynamics, i),
+        LockBit::Absent => false,
+    }
+}
+
+// 1 where bit k is clear, else 0.
+fn clear(b: u16, k: usize) -> u16
+    requires { ⌜ k < 16 ⌝ }
+    ensures { λ r. ⌜ (r ≡ clearAt b k) × (r ≤ 1) ⌝ }
+{
+    1 - (b >> k) % 2
+}
+
+// The bits of the static row that a WRITE may set.
+fn static_mask(statics: u16) -> u16
+    ensures { λ r. ⌜ r ≡ ofBits 16 (mayStatic statics) ⌝ }
+{
+    0x0007 + 0x0008 * clear(statics, 0) + 0x03F0 * clear(statics, 1) + 0xFC00 * clear(statics, 2)
+}
+
+// The bits of these rows that a WRITE may set: those whose row names a block bit that is clear.
+fn row_mask(start: usize, count: usize, blocks: u16) -> u16
+    requires { ⌜ (start + count ≤ 34) × (count ≤ 14) ⌝ }
+    ensures { λ r. ⌜ r ≡ ofBits count (mayRow start blocks) ⌝ }
+{
+    let mut mask: u16 = 0;
+    let mut i = count;
+    while 0 < i {
+        i -= 1;
+        let row = row_at(start + i);
+        mask = clear(blocks, row.2 as usize) + 2 * mask;
+    }
+    mask
+}
+
+// The bits of the dynamic row that a WRITE may set.
+fn dynamic_mask(n: usize, blocks: u16) -> u16
+    requires { ⌜ Sized n ⌝ }
+    ensures { λ r. ⌜ r ≡ ofBits 16 (mayDynamic n blocks) ⌝ }
+{
+    let rows = rows_of(n);
+    row_mask(rows.start, rows.count, blocks)
+}
+
+// The block bits of the lock page that are defined.
+fn block_mask(n: usize) -> u8
+    ensures { λ r. ⌜ r ≡ ofBits 8 (mayBlock n) ⌝ }
+{
+    match n {
+        45 => 0x3F,
+        135 => 0x0F,
+        _ => 0x7F,
+    }
+}
+
+// The static row after a WRITE of page 2.
+pub fn static_gain(statics: u16, d: u16) -> u16
+    ensures { λ r. ⌜ r ≡ staticGain statics d ⌝ }
+{
+    statics | d & static_mask(statics)
+}
+
+// The dynamic row after a WRITE of the lock page, whose block bits were these before it.
+pub fn dynamic_gain(n: usize, blocks: u8, dynamics: u16, d: u16) -> u16
+    requires { ⌜ Sized n ⌝ }
+    ensures { λ r. ⌜ r ≡ dynamicGain n blocks dynamics d ⌝ }
+{
+    dynamics | d & dynamic_mask(n, blocks as u16)
+}
+
+// The block bits after a WRITE of the lock page.
+pub fn block_gain(n: usize, blocks: u8, d: u8) -> u8
+    ensures { λ r. ⌜ r ≡ blockGain n blocks d ⌝ }
+{
+    blocks | d & block_mask(n)
+}
