@@ -1,0 +1,169 @@
+-- What each way through the questions shows, and the examples of the layout. Assumes nothing.
+use mathlib.Core.Path.{_≡_, refl, sym, ap, _∙_}
+use mathlib.Core.Logic.{_⊎_, inl, inr}
+use mathlib.Core.List.{List, [], _∷_}
+use mathlib.Core.Bool.{Bool, true, false, cond}
+use Prim.Native.Nat.{ℕ, _+_, _-_, _*_, _≤_, _<_}
+use native.Mathlib.Nat.{add-zero}
+use native.Mathlib.Omega.{arith}
+use lib.Bits.{bitXor}
+use lib.Dec.{eqb, ltb}
+use lib.ListN.{length, getD}
+use borrow.Author.Tests.{eqb-true, ne-eqb, eq-eqb, lt-ltb, le-ltb, lt-leb, le-leb}
+use Rattle.locks.specs.Bits.{row}
+use Rattle.locks.specs.Locks.{Sized, lockPage, lockedBy}
+use Rattle.locks.proofs.Lock.{sized-least, sized-most}
+use Rattle.image.specs.Layout.{sizeOf, Fits, byte, pageAt, bytesOf, store, firstSettings, pwdPage, regionOf, TableRow, TheTable}
+use Rattle.image.specs.Uid.{uid, cascadeTag, bcc0, bcc1, UidExample}
+use Rattle.image.specs.Shown.{shown}
+use Rattle.image.specs.Write.{statics, dynamics, locked, writtenIn, written}
+use Rattle.image.specs.Tail.{counterIn, nextCount, counted}
+use Rattle.image.specs.declared.Four.{Four}
+use Rattle.image.specs.declared.Size.{Size}
+use Rattle.image.specs.declared.Size.the-variants.{Pages, Unknown}
+use Rattle.image.specs.declared.Region.{Region}
+use Rattle.image.specs.declared.Region.the-variants.{Uid, StaticLocks, Capability, User, DynamicLocks, Settings, Password, Outside}
+
+-- ---- sizes
+
+pub unknown-size : (l : ℕ) → (l ≡ 184 → ⊥) → (l ≡ 544 → ⊥) → (l ≡ 928 → ⊥) → Unknown ≡ sizeOf l
+unfolding sizeOf
+unknown-size l p q r = simp (ne-eqb _ _ p, ne-eqb _ _ q, ne-eqb _ _ r)
+
+sized-fits : (n : ℕ) (img : List ℕ) → Sized n → length img ≡ 4 * n + 4 → Fits n img
+sized-fits n img s e = record { size = s; least = sized-least s; most = sized-most s; whole = e }
+
+-- an image whose length has a size has as many pages
+pub fits : (n : ℕ) (img : List ℕ) → sizeOf (length img) ≡ Pages n → Fits n img
+unfolding sizeOf
+fits n img h = pick (eqb (length img) 184) (eqb (length img) 544) (eqb (length img) 928) refl refl refl h
+  where
+    same : (m k : ℕ) → Sized m → length img ≡ k → k ≡ 4 * m + 4 → Pages m ≡ Pages n → Fits n img
+    same m k s e f p = let q : m ≡ n = cc in rw (← q) (sized-fits m img s (e ∙ f))
+
+    pick : (a b c : Bool) → eqb (length img) 184 ≡ a → eqb (length img) 544 ≡ b → eqb (length img) 928 ≡ c
+        → cond a (Pages 45) (cond b (Pages 135) (cond c (Pages 231) Unknown)) ≡ Pages n → Fits n img
+    pick true b c p q r h = same 45 184 (inl refl) (eqb-true (length img) 184 p) refl h
+    pick false true c p q r h = same 135 544 (inr (inl refl)) (eqb-true (length img) 544 q) refl h
+    pick false false true p q r h = same 231 928 (inr (inr refl)) (eqb-true (length img) 928 r) refl h
+    pick false false false p q r h = let z : _≡_ {A = ℕ} 0 1 = cc in absurd (omega arith)
+
+-- ---- regions
+
+module _ (n p : ℕ) where
+  pub outside : n ≤ p → Outside ≡ regionOf n p
+  unfolding regionOf
+  outside l = simp (le-leb _ _ l)
+
+  pub in-uid : p < n → p < 2 → Uid ≡ regionOf n p
+  unfolding regionOf
+  in-uid l m = simp (lt-leb n p l, lt-ltb p 2 m)
+
+  pub in-statics : p < n → p ≡ 2 → StaticLocks ≡ regionOf n p
+  unfolding regionOf
+  in-statics l e = simp (lt-leb n p l, le-ltb p 2 (omega arith), lt-ltb p 3 (omega arith))
+
+  pub in-capability : p < n → p ≡ 3 → Capability ≡ regionOf n p
+  unfolding regionOf
+  in-capability l e = simp (lt-leb n p l, le-ltb p 2 (omega arith), le-ltb p 3 (omega arith), lt-ltb p 4 (omega arith))
+
+  -- from page 4 on a page goes by its distance from the end
+  module _ (distance : ℕ) (from-four : 4 ≤ p) (e : p + distance ≡ n) (some : 0 < distance) where
+    at-back : cond (ltb p (lockPage n)) User (cond (ltb p (firstSettings n)) DynamicLocks (cond (ltb p (pwdPage n)) Settings Password)) ≡ regionOf n p
+    unfolding regionOf
+    at-back = simp (lt-leb n p (omega arith), le-ltb p 2 (omega arith), le-ltb p 3 (omega arith), le-ltb p 4 from-four)
+
+    pub in-password : distance < 3 → Password ≡ regionOf n p
+    in-password m = rw (← at-back, le-ltb p (lockPage n) (omega arith), le-ltb p (firstSettings n) (omega arith), le-ltb p (pwdPage n) (omega arith))
+
+    pub in-settings : 3 ≤ distance → distance < 5 → Settings ≡ regionOf n p
+    in-settings k m = rw (← at-back, le-ltb p (lockPage n) (omega arith), le-ltb p (firstSettings n) (omega arith), lt-ltb p (pwdPage n) (omega arith))
+
+    pub in-dynamics : distance ≡ 5 → DynamicLocks ≡ regionOf n p
+    in-dynamics k = rw (← at-back, le-ltb p (lockPage n) (omega arith), lt-ltb p (firstSettings n) (omega arith))
+
+    pub in-user : 3 ≤ distance → 5 ≤ distance → (distance ≡ 5 → ⊥) → User ≡ regionOf n p
+    in-user k m q = rw (← at-back, lt-ltb p (lockPage n) (omega arith))
+
+-- ---- bytes
+
+pub page-read : (img : List ℕ) (p : ℕ)
+    → _≡_ {A = Four} (record { b0 = getD img (4 * p) 0; b1 = getD img (4 * p + 1) 0; b2 = getD img (4 * p + 2) 0; b3 = getD img (4 * p + 3) 0 }) (pageAt img p)
+unfolding pageAt byte
+page-read img p = simp add-zero
+
+pub uid-low : (img : List ℕ) (i : ℕ) → i < 3 → getD img i 0 ≡ uid img i
+unfolding uid byte
+uid-low img i l = let e : 4 * 0 + i ≡ i = omega arith in rw (lt-ltb i 3 l, e)
+
+pub uid-high : (img : List ℕ) (i : ℕ) → 3 ≤ i → getD img (i + 1) 0 ≡ uid img i
+unfolding uid byte
+uid-high img i l = let e : 4 * 1 + (i - 3) ≡ i + 1 = omega arith in rw (le-ltb i 3 l, e)
+
+pub bcc0-read : (img : List ℕ) (page : Four) → page ≡ pageAt img 0 → bitXor (bitXor (bitXor cascadeTag (page .b0)) (page .b1)) (page .b2) ≡ bcc0 img
+unfolding bcc0 uid pageAt
+bcc0-read img page e = rw e
+
+pub bcc1-read : (img : List ℕ) (page : Four) → page ≡ pageAt img 1 → bitXor (bitXor (bitXor (page .b0) (page .b1)) (page .b2)) (page .b3) ≡ bcc1 img
+unfolding bcc1 uid pageAt
+bcc1-read img page e = rw e
+
+pub shown-stored : (n p k b : ℕ) (img : List ℕ) → p < n - 2 → b ≡ byte img p k → b ≡ shown n img p k
+unfolding shown
+shown-stored n p k b img l e = rw (lt-ltb p (n - 2) l) e
+
+pub shown-zero : (n p k : ℕ) (img : List ℕ) → n - 2 ≤ p → 0 ≡ shown n img p k
+unfolding shown
+shown-zero n p k img l = rw (le-ltb p (n - 2) l)
+
+pub locked-read : (n p lo hi : ℕ) (img : List ℕ) (s d : Four) (b : Bool) → s ≡ pageAt img 2 → d ≡ pageAt img (n - 5)
+    → lo ≡ s .b2 + 256 * s .b3 → hi ≡ d .b0 + 256 * d .b1 → b ≡ lockedBy n lo hi p → b ≡ locked n img p
+unfolding locked statics dynamics pageAt
+locked-read n p lo hi img s d b e f g h k = rw (← ap (λ (q : Four). row (q .b2) (q .b3)) e, ← ap (λ (q : Four). row (q .b0) (q .b1)) f, ← g, ← h) k
+
+-- ---- what a WRITE leaves at its page
+
+pub written-by : (n p : ℕ) (old d r : Four) (region region′ : Region) → region ≡ regionOf n p → region ≡ region′ → r ≡ writtenIn region′ n old d → r ≡ written n p old d
+unfolding written
+written-by n p old d r region region′ e f h = rw (← e, f) h
+
+pub replaced : (n p : ℕ) (old d : Four) → regionOf n p ≡ User → written n p old d ≡ d
+unfolding written writtenIn
+replaced n p old d e = rw e
+
+-- ---- the counter
+
+pub count-up : (c : ℕ) → c < 0xFFFFFF → c + 1 ≡ nextCount c
+unfolding nextCount
+count-up c l = simp (lt-ltb c 0xFFFFFF l)
+
+pub count-stays : (c : ℕ) → 0xFFFFFF ≤ c → c ≡ nextCount c
+unfolding nextCount
+count-stays c l = simp (le-ltb c 0xFFFFFF l)
+
+pub next-not-less : (c : ℕ) → c ≤ nextCount c
+unfolding nextCount
+next-not-less c = pick (ltb c 0xFFFFFF)
+  where
+    pick : (t : Bool) → c ≤ cond t (c + 1) c
+    pick true = omega arith
+    pick false = omega arith
+
+-- the three bytes hold the next count, and the failed-password count is kept
+pub counter-counted : (tail : Four) → counterIn (counted tail) ≡ nextCount (counterIn tail)
+unfolding counted counterIn
+counter-counted tail = omega arith
+
+-- ---- the examples
+
+pub the-table : TheTable
+unfolding sizeOf regionOf
+the-table = record {
+  n45 = record { size = refl; pages = refl; regions = refl };
+  n135 = record { size = refl; pages = refl; regions = refl };
+  n231 = record { size = refl; pages = refl; regions = refl };
+}
+
+pub uid-example : UidExample
+unfolding uid bcc0 bcc1 byte
+uid-example = record { first = λ x. refl; second = λ x. refl }

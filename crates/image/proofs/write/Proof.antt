@@ -1,0 +1,19 @@
+-- `image::write` meets its contract. Assumes nothing.
+use borrow.Author.Needs.{needs}
+use Rattle.image.specs.Write.{write}
+use Rattle.image.proofs.write.Statement.{statement}
+use Rattle.image.proofs.write.Tie as tie
+
+returns : tie.Need-returns
+unfolding write
+returns c = cc
+
+pub write-spec : {M : Type 1} → statement M
+write-spec =
+    tie.close
+    (tie.spec
+    (λ c κs. search needs)
+    (λ c κs. search needs)
+    (λ c κs. search needs)
+    (λ c. search needs)
+    returns)
