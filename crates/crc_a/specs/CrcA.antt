@@ -1,6 +1,6 @@
 -- CRC_A, to be compared with ISO/IEC 14443-3. Document 01:
 -- "CRC_A: polynomial x^16+x^12+x^5+1, reflected, start 6363h, low byte first". Assumes nothing.
-use mathlib.Core.Path.{_≡_, refl}
+use mathlib.Core.Path.{_≡_}
 use mathlib.Core.List.{List, [], _∷_, _++_}
 use mathlib.Core.Bool.{Bool, _&&_}
 use Prim.Native.Nat.{ℕ, zero, suc, _+_, _-_, _*_, _/_, _%_, _^_}

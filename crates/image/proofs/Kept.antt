@@ -1,25 +1,24 @@
 -- What a WRITE leaves of the locks and of the capability page: no bit clears, a blocked bit doesn't change, and a locked page stays locked.
 -- Assumes nothing.
-use mathlib.Core.Path.{_≡_, refl, sym, ap, _∙_}
+use mathlib.Core.Path.{_≡_, refl, sym}
 use mathlib.Core.Logic.{_≢_}
-use mathlib.Core.List.{List, [], _∷_}
+use mathlib.Core.List.{List}
 use mathlib.Core.Bool.{Bool, true, false, cond}
-use Prim.Native.Nat.{ℕ, zero, suc, _+_, _-_, _*_, _/_, _%_, _≤_, _<_}
+use Prim.Native.Nat.{ℕ, zero, suc, _-_, _/_, _≤_, _<_}
 use native.Mathlib.Omega.{arith}
 use lib.Bits.{bitOr}
 use lib.Dec.{eqb}
 use lib.ListN.{length, getD}
-use borrow.Author.Tests.{eqb-true, eqb-false, ne-eqb, eq-eqb}
+use borrow.Author.Tests.{eqb-true, eqb-false}
 use Rattle.locks.specs.Bits.{bitAt, row, Gains}
 use Rattle.locks.specs.Locks.{lockPage, lockBits, staticBlock, staticGain, dynamicBlock, dynamicGain, blockGain}
 use Rattle.locks.proofs.Bits.{row-bytes, gains-self, or-gains}
 use Rattle.locks.proofs.Gains.{static-keeps, static-blocked, dynamic-keeps, dynamic-blocked, dynamic-undefined, block-keeps, block-undefined}
 use Rattle.locks.proofs.Lock as lock
-use Rattle.image.specs.Layout.{Fits, byte, pageAt, bytesOf, store, regionOf}
+use Rattle.image.specs.Layout.{Fits, byte, pageAt, bytesOf, store}
 use Rattle.image.specs.Write.{statics, dynamics, blocks, locked, staticsWritten, capabilityWritten, dynamicsWritten, writtenIn, written, write, NoneCleared}
 use Rattle.image.specs.declared.Four.{Four}
 use Rattle.image.specs.declared.Region.{Region}
-use Rattle.image.specs.declared.Region.the-variants.{StaticLocks, Capability, DynamicLocks}
 use Rattle.image.proofs.Laws.{in-statics, in-capability, in-dynamics}
 use Rattle.image.proofs.Stored.{length-store, fits-store, byte-same, byte-other}
 

@@ -1,7 +1,7 @@
 -- What each way through the questions shows, and the examples of the layout. Assumes nothing.
-use mathlib.Core.Path.{_≡_, refl, sym, ap, _∙_}
-use mathlib.Core.Logic.{_⊎_, inl, inr}
-use mathlib.Core.List.{List, [], _∷_}
+use mathlib.Core.Path.{_≡_, refl, ap, _∙_}
+use mathlib.Core.Logic.{inl, inr}
+use mathlib.Core.List.{List}
 use mathlib.Core.Bool.{Bool, true, false, cond}
 use Prim.Native.Nat.{ℕ, _+_, _-_, _*_, _≤_, _<_}
 use native.Mathlib.Nat.{add-zero}
@@ -9,11 +9,11 @@ use native.Mathlib.Omega.{arith}
 use lib.Bits.{bitXor}
 use lib.Dec.{eqb, ltb}
 use lib.ListN.{length, getD}
-use borrow.Author.Tests.{eqb-true, ne-eqb, eq-eqb, lt-ltb, le-ltb, lt-leb, le-leb}
+use borrow.Author.Tests.{eqb-true, ne-eqb, lt-ltb, le-ltb, lt-leb, le-leb}
 use Rattle.locks.specs.Bits.{row}
 use Rattle.locks.specs.Locks.{Sized, lockPage, lockedBy}
 use Rattle.locks.proofs.Lock.{sized-least, sized-most}
-use Rattle.image.specs.Layout.{sizeOf, Fits, byte, pageAt, bytesOf, store, firstSettings, pwdPage, regionOf, TableRow, TheTable}
+use Rattle.image.specs.Layout.{sizeOf, Fits, byte, pageAt, firstSettings, pwdPage, regionOf, TheTable}
 use Rattle.image.specs.Uid.{uid, cascadeTag, bcc0, bcc1, UidExample}
 use Rattle.image.specs.Shown.{shown}
 use Rattle.image.specs.Write.{statics, dynamics, locked, writtenIn, written}

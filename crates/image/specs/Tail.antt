@@ -3,7 +3,7 @@ use mathlib.Core.List.{List}
 use mathlib.Core.Bool.{cond}
 use Prim.Native.Nat.{ℕ, _+_, _*_, _/_, _%_}
 use lib.Dec.{ltb}
-use Rattle.image.specs.Layout.{byte, pageAt, store, tailPage}
+use Rattle.image.specs.Layout.{byte, pageAt, tailPage}
 use Rattle.image.specs.declared.Four.{Four}
 
 unfoldable pub counterIn : Four → ℕ

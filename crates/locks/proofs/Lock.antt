@@ -1,12 +1,12 @@
 -- Which bit locks a page: what a search of a size's rows finds is what document 01's arithmetic says; and a locked page stays locked.
 -- Assumes nothing.
 use mathlib.Core.Path.{_≡_, _∙_, refl, sym, ap, subst}
-use mathlib.Core.Logic.{_⊎_, inl, inr, ⊎-elim}
+use mathlib.Core.Logic.{_⊎_, ⊎-elim}
 use mathlib.Core.Bool.{Bool, true, false, cond, _&&_}
-use Prim.Native.Nat.{ℕ, _+_, _-_, _*_, _/_, _≤_, _<_, min}
+use Prim.Native.Nat.{ℕ, _+_, _-_, _/_, _≤_, _<_}
 use native.Mathlib.Omega.{arith}
 use lib.Dec.{leb, ltb, eqb}
-use borrow.Author.Tests.{ltb-true, ltb-false, leb-true, eqb-true, eq-eqb, lt-ltb, le-ltb, le-leb, lt-leb}
+use borrow.Author.Tests.{ltb-true, eqb-true, eq-eqb, lt-ltb, le-ltb, le-leb, lt-leb}
 use Rattle.locks.specs.Bits.{bitAt, isSet, Gains, ofBits}
 use Rattle.locks.specs.Locks.{Sized, lockPage, lockBits, pagesEach, dynamicBlock, lockOf, setIn, lockedBy, clearAt, mayDynamic}
 use Rattle.locks.specs.Table.{firstPage, lastPage, blockBit, rowFor, rowAt, firstRow, Covers, Finds, mayRow}

@@ -4,7 +4,7 @@
 use mathlib.Core.Path.{_≡_}
 use mathlib.Core.Logic.{_⊎_}
 use mathlib.Core.Bool.{Bool, false, cond, _&&_}
-use Prim.Native.Nat.{ℕ, _+_, _-_, _*_, _/_, min, max}
+use Prim.Native.Nat.{ℕ, _-_, _/_, min, max}
 use lib.Dec.{eqb, leb, ltb}
 use Rattle.locks.specs.Bits.{bitAt, isSet, ofBits}
 use Rattle.locks.specs.declared.LockBit.{LockBit}

@@ -1,8 +1,8 @@
 // The two kinds of locks as numbers: which bit locks a page, and which bits a WRITE sets.
 ghost use mathlib.Core.Path.{_≡_};
-ghost use Prim.Native.Nat.{ℕ, _+_, _≤_, _<_};
+ghost use Prim.Native.Nat.{_+_, _≤_, _<_};
 ghost use Rattle.locks.specs.Bits.{isSet, ofBits};
-ghost use Rattle.locks.specs.Locks.{Sized, lockBits, lockOf, lockedBy, clearAt, gain, mayStatic, staticGain, mayDynamic, dynamicGain, mayBlock, blockGain};
+ghost use Rattle.locks.specs.Locks.{Sized, lockBits, lockOf, lockedBy, clearAt, mayStatic, staticGain, mayDynamic, dynamicGain, mayBlock, blockGain};
 ghost use Rattle.locks.specs.Table.{rowAt, firstRow, Finds, mayRow};
 
 // The bit that locks a page: of the static row, of the dynamic row, or none.
