@@ -18,7 +18,6 @@ use Rattle.locks.proofs.Lock as lock
 use Rattle.image.specs.Layout.{Fits, byte, pageAt, bytesOf, store}
 use Rattle.image.specs.Write.{statics, dynamics, blocks, locked, staticsWritten, capabilityWritten, dynamicsWritten, writtenIn, written, write, NoneCleared}
 use Rattle.image.specs.declared.Four.{Four}
-use Rattle.image.specs.declared.Region.{Region}
 use Rattle.image.proofs.Laws.{in-statics, in-capability, in-dynamics}
 use Rattle.image.proofs.Stored.{length-store, fits-store, byte-same, byte-other}
 

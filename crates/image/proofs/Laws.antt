@@ -15,7 +15,7 @@ use Rattle.locks.specs.Locks.{Sized, lockPage, lockedBy}
 use Rattle.locks.proofs.Lock.{sized-least, sized-most}
 use Rattle.image.specs.Layout.{sizeOf, Fits, byte, pageAt, firstSettings, pwdPage, regionOf, TheTable}
 use Rattle.image.specs.Uid.{uid, cascadeTag, bcc0, bcc1, UidExample}
-use Rattle.image.specs.Shown.{shown}
+use Rattle.image.specs.Shown.{shown, shownPage}
 use Rattle.image.specs.Write.{statics, dynamics, locked, writtenIn, written}
 use Rattle.image.specs.Tail.{counterIn, nextCount, counted}
 use Rattle.image.specs.declared.Four.{Four}
@@ -115,6 +115,14 @@ shown-stored n p k b img l e = rw (lt-ltb p (n - 2) l) e
 pub shown-zero : (n p k : ℕ) (img : List ℕ) → n - 2 ≤ p → 0 ≡ shown n img p k
 unfolding shown
 shown-zero n p k img l = rw (le-ltb p (n - 2) l)
+
+pub page-shown : (n p : ℕ) (img : List ℕ) (v : Four) → p < n - 2 → v ≡ pageAt img p → v ≡ shownPage n img p
+unfolding shownPage shown pageAt
+page-shown n p img v l e = rw (lt-ltb p (n - 2) l) e
+
+pub page-hidden : (n p : ℕ) (img : List ℕ) → n - 2 ≤ p → _≡_ {A = Four} (record { b0 = 0; b1 = 0; b2 = 0; b3 = 0 }) (shownPage n img p)
+unfolding shownPage shown
+page-hidden n p img l = rw (le-ltb p (n - 2) l)
 
 pub locked-read : (n p lo hi : ℕ) (img : List ℕ) (s d : Four) (b : Bool) → s ≡ pageAt img 2 → d ≡ pageAt img (n - 5)
     → lo ≡ s .b2 + 256 * s .b3 → hi ≡ d .b0 + 256 * d .b1 → b ≡ lockedBy n lo hi p → b ≡ locked n img p

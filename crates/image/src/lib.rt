@@ -7,7 +7,7 @@ ghost use Rattle.locks.specs.Locks.{Sized};
 ghost use Rattle.image.specs.Layout.{sizeOf, Fits, byte, pageAt, bytesOf, store, regionOf};
 ghost use Rattle.image.specs.Settings.{auth0, access, prot, settingsLocked, counterOn, counterGuarded, authlim};
 ghost use Rattle.image.specs.Uid.{uid, bcc0, bcc1};
-ghost use Rattle.image.specs.Shown.{shown};
+ghost use Rattle.image.specs.Shown.{shown, shownPage};
 ghost use Rattle.image.specs.Write.{locked, staticsWritten, capabilityWritten, dynamicsWritten, written, write};
 ghost use Rattle.image.specs.Tail.{failed, nextCount, counted, withFailed};
 
@@ -185,6 +185,23 @@ pub fn shown(image: &[u8], n: usize, page: usize, k: usize) -> u8
         byte(image, page, k)
     } else {
         0
+    }
+}
+
+// The four bytes that reading shows of a page.
+pub fn shown_page(image: &[u8], n: usize, page: usize) -> Four
+    requires { ⌜ Fits n (now image) ⌝ }
+    ensures { λ r. ⌜ r ≡ shownPage n (now (image .entry)) page ⌝ }
+{
+    if page < n - 2 {
+        page_at(image, page)
+    } else {
+        Four {
+            b0: 0,
+            b1: 0,
+            b2: 0,
+            b3: 0,
+        }
     }
 }
 

@@ -1,0 +1,20 @@
+-- `image::shown_page` meets its contract. Assumes nothing.
+use borrow.Author.Needs.{needs}
+use Rattle.image.proofs.Laws.{page-shown, page-hidden}
+use Rattle.image.proofs.shown_page.Statement.{statement}
+use Rattle.image.proofs.shown_page.Tie as tie
+
+returns : tie.Need-returns
+returns c = search page-shown
+
+returns-2 : tie.Need-returns-2
+returns-2 c = search page-hidden
+
+pub shown-page-spec : {M : Type 1} → statement M
+shown-page-spec =
+    tie.close
+    (tie.spec
+    (λ c. search needs)
+    (λ c κs. search needs)
+    returns
+    returns-2)

@@ -1,0 +1,86 @@
+-- Answers laid over a buffer, and what the answers without an image show. Assumes nothing.
+use mathlib.Core.Path.{_≡_, refl, ap, _∙_}
+use mathlib.Core.List.{List, [], _∷_, _++_}
+use Prim.Native.Nat.{ℕ, _+_, _*_, _/_, _%_, _≤_, _<_}
+use native.Mathlib.Omega.{arith}
+use lib.ListN.{length, take, drop, set, length-append, length-drop}
+use lib.Seq.{sets, sets-eq, set-split, take-at, drop-drop, drop-append-add, length-take-le}
+use Rattle.crc_a.specs.CrcA.{crcA, sent, withCrc}
+use Rattle.tag.specs.State.{moved, backToWait}
+use Rattle.tag.specs.Outcome.{silence, bytes, bitsOf, answerOf, over, keep, apply, does, Did, lost, nak}
+use Rattle.tag.specs.declared.State.{State}
+use Rattle.tag.specs.declared.Tag.{Tag}
+use Rattle.tag.specs.declared.Step.{Step}
+
+-- what a function by cases gives, where the case is known
+pub by-case : {A B : Type 0} (f : A → B) (s s′ : A) (r : B) → s ≡ s′ → r ≡ f s′ → r ≡ f s
+by-case f s s′ r e h = rw e h
+
+-- ---- laid over
+
+pub over-none : (buffer : List ℕ) → over [] buffer ≡ buffer
+unfolding over
+over-none buffer = refl
+
+pub take-over : (a b : List ℕ) (n : ℕ) → length a ≡ n → take n (over a b) ≡ a
+unfolding over
+take-over a b n e = take-at a (drop (length a) b) n e
+
+pub length-over : (a b : List ℕ) → length a ≤ length b → length (over a b) ≡ length b
+unfolding over
+length-over a b l = simp (length-append, length-drop) (omega arith)
+
+-- a longer answer that goes over a shorter one
+pub over-over : (a b c : List ℕ) → over (a ++ c) (over a b) ≡ over (a ++ c) b
+unfolding over
+over-over a b c =
+    ap (λ (t : List ℕ). (a ++ c) ++ t) (
+    rw (length-append a c) (drop-append-add a (drop (length a) b) (length c) ∙ drop-drop (length c) (length a) b)
+    )
+
+-- ---- silence and nibbles
+
+-- no answer, for every image and buffer
+abbrev pub Silent : Tag → Step → Type 0
+Silent t r = (img before : List ℕ) → Did (does silence keep t) r img img before before
+
+-- a NAK, for every image
+abbrev pub Naks : Tag → ℕ → Step → List ℕ → List ℕ → Type 0
+Naks t v r before after = (img : List ℕ) → Did (nak t v) r img img before after
+
+pub silent-done : (t : Tag) → Silent t (record { bits = 0; tag = t })
+unfolding apply bitsOf answerOf over
+silent-done t img before = record { image = refl; bits = refl; tag = refl; answer = refl }
+
+pub lost-done : (t t′ : Tag) (s : State) (r : Step) → s ≡ backToWait (t .state) → t′ ≡ moved t s → Silent t′ r → (img before : List ℕ) → Did (lost t) r img img before before
+unfolding lost
+lost-done t t′ s r e f h img before = rw (← e, ← f) (h img before)
+
+pub nak-done : (t t′ : Tag) (s : State) (v : ℕ) (before : List ℕ) → s ≡ backToWait (t .state) → t′ ≡ moved t s → (1 ≤ length before) × (v < 16)
+    → Naks t v (record { bits = 4; tag = t′ }) before (set before 0 v)
+unfolding nak apply bitsOf answerOf over
+nak-done t t′ s v before e f l img =
+    record { image = refl; bits = refl; tag = f ∙ rw e; answer = (let q : v % 16 ≡ v = omega arith in rw q (set-split before 0 v (l .0))) }
+
+-- ---- bytes, with their CRC_A behind them
+
+pub length-with-crc : (bs : List ℕ) → length (withCrc bs) ≡ length bs + 2
+unfolding withCrc sent
+length-with-crc bs = length-append bs _
+
+-- the CRC_A was stored behind the first n bytes
+pub crc-behind : (buffer after : List ℕ) (n : ℕ) → (n + 2 ≤ length buffer) × (n ≤ 1022) → after ≡ sets buffer n (sent (crcA (take n buffer)))
+    → after ≡ over (withCrc (take n buffer)) buffer
+unfolding withCrc sent over
+crc-behind buffer after n l e =
+    let c = crcA (take n buffer) in
+    let whole : length (take n buffer ++ (c % 256 ∷ c / 256 ∷ [])) ≡ n + 2 =
+    length-append (take n buffer) (c % 256 ∷ c / 256 ∷ []) ∙ ap (λ (k : ℕ). k + 2) (length-take-le n buffer (omega arith)) in
+    rw whole (e ∙ sets-eq (c % 256 ∷ c / 256 ∷ []) buffer n (l .0))
+
+-- bytes were laid over the buffer, and the CRC_A behind them
+pub answered : (bs before mid after : List ℕ) (n bits : ℕ) → length bs ≡ n → mid ≡ over bs before
+    → (bits ≡ 8 * (n + 2)) × (after ≡ over (withCrc (take n mid)) mid) → (bits ≡ bitsOf (bytes bs)) × (after ≡ over (answerOf (bytes bs)) before)
+unfolding bitsOf answerOf withCrc
+answered bs before mid after n bits l em e =
+    (rw l (e .0), e .1 ∙ rw (em, take-over bs before n l) (over-over bs before (sent (crcA bs))))

@@ -1,0 +1,78 @@
+-- What comes out of a frame is one value: a reply, an effect on the image, and the tag that is left. Assumes nothing.
+use mathlib.Core.Path.{_≡_}
+use mathlib.Core.List.{List, [], _∷_, _++_}
+use Prim.Native.Nat.{ℕ, zero, suc, _+_, _*_, _/_, _%_, _^_, _≤_}
+use lib.ListN.{length, drop}
+use Rattle.crc_a.specs.CrcA.{withCrc}
+use Rattle.image.specs.declared.Four.{Four}
+use Rattle.image.specs.Layout.{Fits, store}
+use Rattle.tag.specs.declared.Tag.{Tag}
+use Rattle.tag.specs.declared.Step.{Step}
+use Rattle.tag.specs.State.{moved, backToWait}
+
+-- silence; the four bits of an ACK or a NAK; bytes, with their CRC_A behind them; the low k bits of a number, without
+pub data Reply : Type 0 where
+  silence : Reply
+  nibble : ℕ → Reply
+  bytes : List ℕ → Reply
+  plain : ℕ → ℕ → Reply
+
+-- "Silence is count 0."; "ACK (Ah) and NAK are count 4."
+unfoldable pub bitsOf : Reply → ℕ
+bitsOf silence = 0
+bitsOf (nibble v) = 4
+bitsOf (bytes bs) = 8 * (length bs + 2)
+bitsOf (plain k v) = k
+
+-- the low k bytes of a number, least significant first
+unfoldable pub lowBytes : ℕ → ℕ → List ℕ
+lowBytes zero v = []
+lowBytes (suc k) v = v % 256 ∷ lowBytes k (v / 256)
+
+-- "that many bits from the buffer's start, bits packed least significant first"; "Unused high bits of the last byte are zero."
+unfoldable pub answerOf : Reply → List ℕ
+answerOf silence = []
+answerOf (nibble v) = v % 16 ∷ []
+answerOf (bytes bs) = withCrc bs
+answerOf (plain k v) = lowBytes ((k + 7) / 8) (v % 2 ^ k)
+
+-- "buffer bytes past it keep their contents"
+unfoldable pub over : List ℕ → List ℕ → List ℕ
+over answer buffer = answer ++ drop (length answer) buffer
+
+-- the image stays, or one page of it gets other bytes; the tail is page N
+pub data Effect : Type 0 where
+  keep : Effect
+  put : ℕ → Four → Effect
+
+unfoldable pub apply : List ℕ → Effect → List ℕ
+apply img keep = img
+apply img (put p v) = store img p v
+
+pub record Does : Type 0 where
+  pub reply : Reply
+  pub effect : Effect
+  pub tag : Tag
+
+abbrev pub does : Reply → Effect → Tag → Does
+does r e t = record { reply = r; effect = e; tag = t }
+
+-- "silence, wait state"
+unfoldable pub lost : Tag → Does
+lost t = does silence keep (moved t (backToWait (t .state)))
+
+-- "Every NAK goes to the wait state."
+unfoldable pub nak : Tag → ℕ → Does
+nak t v = does (nibble v) keep (moved t (backToWait (t .state)))
+
+-- A call did this: img is the image before it and image′ after it, before and after are the answer buffer's bytes.
+pub record Did (o : Does) (r : Step) (img image′ before after : List ℕ) : Type 0 where
+  pub image : image′ ≡ apply img (o .effect)
+  pub bits : r .bits ≡ bitsOf (o .reply)
+  pub tag : r .tag ≡ o .tag
+  pub answer : after ≡ over (answerOf (o .reply)) before
+
+-- an image of n pages, and an answer buffer that isn't refused
+pub record Room (n : ℕ) (img answer : List ℕ) : Type 0 where
+  pub fit : Fits n img
+  pub room : 1024 ≤ length answer
