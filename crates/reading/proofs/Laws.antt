@@ -1,0 +1,176 @@
+-- Pages laid into the answer, and what each way through READ and FAST_READ shows. Assumes nothing.
+use mathlib.Core.Path.{_≡_, refl, sym, ap, _∙_}
+use mathlib.Core.List.{List, [], _∷_, _++_}
+use mathlib.Core.Bool.{Bool, true, false}
+use Prim.Native.Nat.{ℕ, zero, suc, _+_, _-_, _*_, _/_, _%_, _≤_, _<_}
+use native.Mathlib.Nat.{not-suc-le-zero, le-of-suc-le-suc, add-zero, mod-add-mod, mod-eq-of-lt, mod-self}
+use native.Mathlib.Omega.{arith}
+use lib.ListN.{length, take, drop, set}
+use lib.Seq.{sets, length-sets}
+use borrow.Author.Tests.{lt-ltb, le-ltb, le-leb, lt-leb}
+use Rattle.image.specs.declared.Four.{Four}
+use Rattle.image.specs.Layout.{pageAt, bytesOf, store}
+use Rattle.image.specs.Settings.{auth0, prot, counterOn}
+use Rattle.image.specs.Shown.{shown, shownPage}
+use Rattle.image.specs.Tail.{counted}
+use Rattle.crc_a.specs.CrcA.{withCrc}
+use Rattle.tag.specs.declared.Tag.{Tag}
+use Rattle.tag.specs.declared.Step.{Step}
+use Rattle.tag.specs.State.{authenticated, answering}
+use Rattle.tag.specs.Outcome.{over, apply, Did}
+use Rattle.tag.proofs.Laws.{Naks, answered}
+use Rattle.reading.specs.Reading.{bound, build, pageByte, pagesFrom, counting, readAnswered, read, fastRead}
+
+-- ---- a list that is built into the front of a buffer
+
+pub length-build : (f : ℕ → ℕ) (k : ℕ) → length (build f k) ≡ k
+length-build f zero = refl
+length-build f (suc k) = ap suc (length-build (λ i. f (suc i)) k)
+
+-- k of them laid over d
+abbrev pub laid : (ℕ → ℕ) → ℕ → List ℕ → List ℕ
+laid f k d = build f k ++ drop k d
+
+laid-suc : (f : ℕ → ℕ) (k : ℕ) (d : List ℕ) → k < length d → set (laid f k d) k (f k) ≡ laid f (suc k) d
+laid-suc f k [] l = absurd (not-suc-le-zero l)
+laid-suc f zero (x ∷ d) l = refl
+laid-suc f (suc k) (x ∷ d) l = ap (λ (t : List ℕ). f zero ∷ t) (laid-suc (λ i. f (suc i)) k d (le-of-suc-le-suc l))
+
+-- four more of them
+laid-four : (f : ℕ → ℕ) (k v0 v1 v2 v3 : ℕ) (d : List ℕ) → k + 4 ≤ length d → v0 ≡ f k → v1 ≡ f (suc k) → v2 ≡ f (suc (suc k)) → v3 ≡ f (suc (suc (suc k)))
+    → sets (laid f k d) k (v0 ∷ v1 ∷ v2 ∷ v3 ∷ []) ≡ laid f (suc (suc (suc (suc k)))) d
+laid-four f k v0 v1 v2 v3 d l e0 e1 e2 e3 =
+    rw (e0, e1, e2, e3)
+    (ap (λ (t : List ℕ). set (set (set t (suc k) (f (suc k))) (suc (suc k)) (f (suc (suc k)))) (suc (suc (suc k))) (f (suc (suc (suc k))))) (laid-suc f k d (omega arith))
+    ∙ ap (λ (t : List ℕ). set (set t (suc (suc k)) (f (suc (suc k)))) (suc (suc (suc k))) (f (suc (suc (suc k))))) (laid-suc f (suc k) d (omega arith))
+    ∙ ap (λ (t : List ℕ). set t (suc (suc (suc k))) (f (suc (suc (suc k))))) (laid-suc f (suc (suc k)) d (omega arith))
+    ∙ laid-suc f (suc (suc (suc k))) d (omega arith))
+
+-- ---- the loop over pages
+
+pub four-stored : (answer : List ℕ) (at : ℕ) (v w : Four) → v ≡ w
+    → set (set (set (set answer at (v .b0)) (at + 1) (v .b1)) (at + 2) (v .b2)) (at + 3) (v .b3) ≡ sets answer at (bytesOf w)
+unfolding bytesOf
+four-stored answer at v w e =
+    let one : at + 1 ≡ suc at = omega arith in
+    let two : at + 2 ≡ suc (suc at) = omega arith in
+    let three : at + 3 ≡ suc (suc (suc at)) = omega arith in
+    rw (one, two, three, ← e)
+
+pub page-after : (b page x : ℕ) → page + 1 < b → page ≡ x % b → page + 1 ≡ (x + 1) % b
+page-after b page x l e = sym (sym (mod-add-mod x b 1) ∙ ap (λ (y : ℕ). (y + 1) % b) (sym e) ∙ mod-eq-of-lt l)
+
+pub page-round : (b page x : ℕ) → page < b → b ≤ page + 1 → page ≡ x % b → 0 ≡ (x + 1) % b
+page-round b page x l m e =
+    let q : page + 1 ≡ b = omega arith in
+    sym (sym (mod-add-mod x b 1) ∙ ap (λ (y : ℕ). (y + 1) % b) (sym e) ∙ ap (λ (y : ℕ). y % b) q ∙ mod-self b)
+
+pub page-first : (b first : ℕ) → first < b → first ≡ (first + 0) % b
+page-first b first l = rw (add-zero) (sym (mod-eq-of-lt l))
+
+pub page-next : (b page next first i : ℕ) → page ≡ (first + i) % b → ((x : ℕ) → page ≡ x % b → next ≡ (x + 1) % b) × (next < b) → next ≡ (first + (i + 1)) % b
+page-next b page next first i e h = let q : first + (i + 1) ≡ first + i + 1 = omega arith in rw q (h .0 (first + i) e)
+
+pub pages-length : (answer after d vs : List ℕ) (at : ℕ) → length answer ≡ length d → after ≡ sets answer at vs → length after ≡ length d
+pages-length answer after d vs at e h = rw h (length-sets answer at vs ∙ e)
+
+module _ (n first b : ℕ) (img : List ℕ) where
+  -- byte k of the i-th page
+  page-byte : (i j k page : ℕ) → j / 4 ≡ i → j % 4 ≡ k → page ≡ (first + i) % b → shown n img page k ≡ pageByte n img first b j
+  unfolding pageByte
+  page-byte i j k page e f g = rw (e, f, g)
+
+  -- a turn of the loop
+  pub pages-turn : (i page count : ℕ) (answer after d : List ℕ) → i < count → count ≤ 231 → 1024 ≤ length d → page ≡ (first + i) % b → answer ≡ laid (pageByte n img first b) (4 * i) d
+      → after ≡ sets answer (4 * i) (bytesOf (shownPage n img page)) → after ≡ laid (pageByte n img first b) (4 * (i + 1)) d
+  unfolding bytesOf shownPage
+  pages-turn i page count answer after d l m room e f g =
+      let q : 4 * (i + 1) ≡ suc (suc (suc (suc (4 * i)))) = omega arith in
+      rw (g, f, q)
+      (laid-four (pageByte n img first b) (4 * i) (shown n img page 0) (shown n img page 1) (shown n img page 2) (shown n img page 3) d (omega arith)
+      (page-byte i (4 * i) 0 page (omega arith) (omega arith) e)
+      (page-byte i (suc (4 * i)) 1 page (omega arith) (omega arith) e)
+      (page-byte i (suc (suc (4 * i))) 2 page (omega arith) (omega arith) e)
+      (page-byte i (suc (suc (suc (4 * i)))) 3 page (omega arith) (omega arith) e))
+
+  pub pages-end : (i count : ℕ) (answer d : List ℕ) → i ≤ count → count ≤ i → answer ≡ laid (pageByte n img first b) (4 * i) d → answer ≡ over (pagesFrom n img first b count) d
+  unfolding over pagesFrom
+  pages-end i count answer d l m e =
+      let q : i ≡ count = omega arith in
+      rw (length-build (pageByte n img first b) (4 * count)) (e ∙ ap (λ (k : ℕ). laid (pageByte n img first b) (4 * k) d) q)
+
+pub length-pages : (n first b count : ℕ) (img : List ℕ) → length (pagesFrom n img first b count) ≡ 4 * count
+unfolding pagesFrom
+length-pages n first b count img = length-build (pageByte n img first b) (4 * count)
+
+-- ---- B
+
+module _ (n : ℕ) (img : List ℕ) (t : Tag) where
+  pub bound-open : (p : Bool) → p ≡ prot n img → p ≡ false → n ≡ bound n img t
+  unfolding bound
+  bound-open p e f = simp (← e, f)
+
+  pub bound-granted : (p a : Bool) → p ≡ prot n img → p ≡ true → a ≡ authenticated t → a ≡ true → n ≡ bound n img t
+  unfolding bound
+  bound-granted p a e f g h = simp (← e, f, ← g, h)
+
+  module _ (p a : Bool) (x first : ℕ) (e : p ≡ prot n img) (f : p ≡ true) (g : a ≡ authenticated t) (h : a ≡ false) (q : x ≡ auth0 n img) (w : (first ≡ x) × (first < 256)) where
+    pub bound-low : first < n → first ≡ bound n img t
+    unfolding bound
+    bound-low l = simp (← e, f, ← g, h, ← q, ← w .0, lt-ltb _ _ l)
+
+    pub bound-high : n ≤ first → n ≡ bound n img t
+    unfolding bound
+    bound-high l = simp (← e, f, ← g, h, ← q, ← w .0, le-ltb _ _ l)
+
+-- ---- the counter
+
+module _ (n : ℕ) (img : List ℕ) (t : Tag) where
+  pub count-again : t .answered ≡ true → img ≡ apply img (counting n img t)
+  unfolding counting apply
+  count-again p = simp p
+
+  pub count-off : (b : Bool) → t .answered ≡ false → b ≡ counterOn n img → b ≡ false → img ≡ apply img (counting n img t)
+  unfolding counting apply
+  count-off b p e f = simp (p, ← e, f)
+
+  pub count-on : (b : Bool) (image′ : List ℕ) → t .answered ≡ false → b ≡ counterOn n img → b ≡ true → image′ ≡ store img n (counted (pageAt img n)) → image′ ≡ apply img (counting n img t)
+  unfolding counting apply
+  count-on b image′ p e f h = simp (p, ← e, f) h
+
+-- ---- READ and FAST_READ
+
+module _ (n : ℕ) (img : List ℕ) (t t′ : Tag) (b bits : ℕ) (before mid after image′ : List ℕ) where
+  read-done : (bs : List ℕ) (k : ℕ) → length bs ≡ k → mid ≡ over bs before → (bits ≡ 8 * (k + 2)) × (after ≡ over (withCrc (take k mid)) mid)
+      → (t′ ≡ answering t) × (image′ ≡ apply img (counting n img t)) → Did (readAnswered n img t bs) (record { bits = bits; tag = t′ }) img image′ before after
+  unfolding readAnswered
+  read-done bs k l em e c =
+      let a = answered bs before mid after k bits l em e in
+      record { image = c .1; bits = a .0; tag = c .0; answer = a .1 }
+
+  pub read-data : (a x : ℕ) → (b ≡ bound n img t) × (b ≤ n) → (a ≡ x) × (a < 256) → a < b → mid ≡ over (pagesFrom n img a b 4) before
+      → (bits ≡ 8 * (16 + 2)) × (after ≡ over (withCrc (take 16 mid)) mid) → (t′ ≡ answering t) × (image′ ≡ apply img (counting n img t))
+      → Did (read n img t x) (record { bits = bits; tag = t′ }) img image′ before after
+  unfolding read
+  read-data a x eb w l em e c = rw (← eb .0, ← w .0, lt-ltb a b l) (read-done (pagesFrom n img a b 4) 16 (length-pages n a b 4 img) em e c)
+
+  pub fast-data : (s e x y : ℕ) → (b ≡ bound n img t) × (b ≤ n) → (s ≡ x) × (s < 256) → (e ≡ y) × (e < 256) → s ≤ e → e < b
+      → mid ≡ over (pagesFrom n img s b (e + 1 - s)) before
+      → (bits ≡ 8 * (4 * (e + 1 - s) + 2)) × (after ≡ over (withCrc (take (4 * (e + 1 - s)) mid)) mid) → (t′ ≡ answering t) × (image′ ≡ apply img (counting n img t))
+      → Did (fastRead n img t x y) (record { bits = bits; tag = t′ }) img image′ before after
+  unfolding fastRead
+  fast-data s e x y eb w v l m em d c =
+      rw (← eb .0, ← w .0, ← v .0, le-leb s e l, lt-ltb e b m) (read-done (pagesFrom n img s b (e + 1 - s)) (4 * (e + 1 - s)) (length-pages n s b (e + 1 - s) img) em d c)
+
+module _ (n : ℕ) (img : List ℕ) (t : Tag) (b : ℕ) (r : Step) (before after : List ℕ) (naks : Naks t 0 r before after) where
+  pub read-nak : (a x : ℕ) → (b ≡ bound n img t) × (b ≤ n) → (a ≡ x) × (a < 256) → b ≤ a → Did (read n img t x) r img img before after
+  unfolding read
+  read-nak a x eb w l = rw (← eb .0, ← w .0, le-ltb a b l) (naks img)
+
+  pub fast-back : (s e x y : ℕ) → (s ≡ x) × (s < 256) → (e ≡ y) × (e < 256) → e < s → Did (fastRead n img t x y) r img img before after
+  unfolding fastRead
+  fast-back s e x y w v l = rw (← w .0, ← v .0, lt-leb s e l) (naks img)
+
+  pub fast-far : (s e x y : ℕ) → (b ≡ bound n img t) × (b ≤ n) → (s ≡ x) × (s < 256) → (e ≡ y) × (e < 256) → s ≤ e → b ≤ e → Did (fastRead n img t x y) r img img before after
+  unfolding fastRead
+  fast-far s e x y eb w v l m = rw (← eb .0, ← w .0, ← v .0, le-leb s e l, le-ltb e b m) (naks img)
