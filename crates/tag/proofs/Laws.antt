@@ -1,10 +1,12 @@
 -- Answers laid over a buffer, and what the answers without an image show. Assumes nothing.
 use mathlib.Core.Path.{_≡_, refl, ap, _∙_}
 use mathlib.Core.List.{List, [], _∷_, _++_}
-use Prim.Native.Nat.{ℕ, _+_, _*_, _/_, _%_, _≤_, _<_}
+use Prim.Native.Nat.{ℕ, zero, suc, _+_, _*_, _/_, _%_, _≤_, _<_}
+use native.Mathlib.Nat.{not-suc-le-zero, le-of-suc-le-suc}
+use native.Mathlib.Numerals.{add-one}
 use native.Mathlib.Omega.{arith}
-use lib.ListN.{length, take, drop, set, length-append, length-drop}
-use lib.Seq.{sets, sets-eq, set-split, take-at, drop-drop, drop-append-add, length-take-le}
+use lib.ListN.{length, take, drop, set, getD, length-append, length-drop}
+use lib.Seq.{take-length, sets, sets-eq, set-split, take-at, drop-drop, drop-append-add, length-take-le}
 use Rattle.crc_a.specs.CrcA.{crcA, sent, withCrc}
 use Rattle.tag.specs.State.{moved, backToWait}
 use Rattle.tag.specs.Outcome.{silence, bytes, bitsOf, answerOf, over, keep, apply, does, Did, lost, nak}
@@ -37,6 +39,24 @@ over-over a b c =
     ap (λ (t : List ℕ). (a ++ c) ++ t) (
     rw (length-append a c) (drop-append-add a (drop (length a) b) (length c) ∙ drop-drop (length c) (length a) b)
     )
+
+-- ---- a loop that lays bytes over a buffer: the first i of them stand there
+
+lay-suc : (bs d : List ℕ) (i : ℕ) → i < length bs → i < length d → set (take i bs ++ drop i d) i (getD bs i 0) ≡ take (suc i) bs ++ drop (suc i) d
+lay-suc [] d i l m = absurd (not-suc-le-zero l)
+lay-suc (x ∷ bs) [] i l m = absurd (not-suc-le-zero m)
+lay-suc (x ∷ bs) (y ∷ d) zero l m = refl
+lay-suc (x ∷ bs) (y ∷ d) (suc i) l m = ap (λ (t : List ℕ). x ∷ t) (lay-suc bs d i (le-of-suc-le-suc l) (le-of-suc-le-suc m))
+
+pub lay-turn : (bs d answer : List ℕ) (i : ℕ) → i < length bs → length bs ≤ length d → answer ≡ take i bs ++ drop i d
+    → set answer i (getD bs i 0) ≡ take (i + 1) bs ++ drop (i + 1) d
+lay-turn bs d answer i l m e = rw (e, add-one) (lay-suc bs d i l (omega arith))
+
+pub lay-end : (bs d answer : List ℕ) (i : ℕ) → i ≤ length bs → length bs ≤ i → answer ≡ take i bs ++ drop i d → answer ≡ over bs d
+unfolding over
+lay-end bs d answer i l m e =
+    let q : i ≡ length bs = omega arith in
+    e ∙ rw q (ap (λ (t : List ℕ). t ++ drop (length bs) d) (take-length bs))
 
 -- ---- silence and nibbles
 

@@ -173,6 +173,18 @@ pub fn nak(answer: &mut [u8], tag: Tag, value: u8) -> Step
     }
 }
 
+// Bytes go into the answer, from its start on.
+pub fn lay(answer: &mut [u8], bytes: &[u8])
+    requires { ⌜ length (now bytes) ≤ length (now answer) ⌝ }
+    ensures { λ _. ⌜ now (answer .exit) ≡ over (now (bytes .entry)) (now (answer .entry)) ⌝ }
+{
+    let mut i: usize = 0;
+    while i < bytes.len() {
+        answer[i] = bytes[i];
+        i += 1;
+    }
+}
+
 // The CRC_A behind the n bytes that stand at the answer's start; the bit count of them all.
 pub fn finish(answer: &mut [u8], n: usize) -> usize
     requires { ⌜ (n + 2 ≤ length (now answer)) × (n ≤ 1022) ⌝ }

@@ -1,0 +1,19 @@
+-- `commands::version` meets its contract. Assumes nothing.
+use borrow.Author.Needs.{needs}
+use Rattle.commands.proofs.Laws.{version-done}
+use Rattle.commands.proofs.version.Statement.{statement}
+use Rattle.commands.proofs.version.Tie as tie
+
+returns : tie.Need-returns
+returns c = search version-done
+
+pub version-spec : {M : Type 1} → statement M
+version-spec =
+    tie.close
+    (tie.spec
+    (λ c. search needs)
+    (λ c κs. search needs)
+    (λ c κs. search needs)
+    (λ c κs. search needs)
+    (λ c. search needs)
+    returns)

@@ -1,0 +1,340 @@
+// A frame in ACTIVE: its command, and what WRITE, GET_VERSION, READ_CNT, PWD_AUTH and HLTA do.
+use image::Four;
+use image::Region;
+use tag::Step;
+use tag::Tag;
+ghost use mathlib.Core.Path.{_≡_};
+ghost use mathlib.Core.Bool.{false};
+ghost use mathlib.Core.List.{List};
+ghost use Prim.Native.Nat.{ℕ, _+_, _≤_, _<_};
+ghost use lib.ListN.{length, set};
+ghost use Rattle.image.specs.Layout.{Fits};
+ghost use Rattle.tag.specs.Outcome.{Did, Room};
+ghost use Rattle.commands.specs.Commands.{underPassword, refuses, write, sizeCode, version, countReadable, readCount, limitReached, same, accepted, rejected, pwdAuth, hlta};
+ghost use Rattle.commands.specs.Frame.{args, commandOf, done, inActive};
+
+fn wide(b: u8) -> usize
+    ensures { λ r. ⌜ (r ≡ b) × (r < 256) ⌝ }
+{
+    b as usize
+}
+
+// Whether a page is under password.
+fn under_password(image: &[u8], n: usize, tag: Tag, page: usize) -> bool
+    requires { ⌜ Fits n (now image) ⌝ }
+    ensures { λ r. ⌜ r ≡ underPassword n (now (image .entry)) tag page ⌝ }
+{
+    if wide(image::auth0(image, n)) <= page {
+        if tag.authenticated() { false } else { true }
+    } else {
+        false
+    }
+}
+
+// Whether a WRITE to a page is refused.
+fn refuses(image: &[u8], n: usize, tag: Tag, page: usize) -> bool
+    requires { ⌜ Fits n (now image) ⌝ }
+    ensures { λ r. ⌜ r ≡ refuses n (now (image .entry)) tag page ⌝ }
+{
+    if under_password(image, n, tag, page) {
+        return true;
+    }
+    let region = image::region_of(n, page);
+    match region {
+        Region::Uid => true,
+        Region::StaticLocks => false,
+        Region::Capability => image::is_locked(image, n, page),
+        Region::User => image::is_locked(image, n, page),
+        Region::DynamicLocks => false,
+        Region::Settings => image::settings_locked(image, n),
+        Region::Password => false,
+        Region::Outside => true,
+    }
+}
+
+pub fn write(image: &mut [u8], answer: &mut [u8], n: usize, tag: Tag, a: u8, d: Four) -> Step
+    requires { ⌜ Room n (now image) (now answer) ⌝ }
+    ensures { λ r. ⌜ Did (write n (now (image .entry)) tag a d) r (now (image .entry)) (now (image .exit)) (now (answer .entry)) (now (answer .exit)) ⌝ }
+{
+    let page = wide(a);
+    if refuses(image, n, tag, page) {
+        return tag::nak(answer, tag, 0);
+    }
+    image::write(image, n, page, d);
+    answer[0] = 0x0A;
+    Step { bits: 4, tag }
+}
+
+fn size_code(n: usize) -> u8
+    ensures { λ r. ⌜ r ≡ sizeCode n ⌝ }
+{
+    match n {
+        45 => 0x0F,
+        135 => 0x11,
+        _ => 0x13,
+    }
+}
+
+fn set_size_code(answer: &mut [u8], n: usize)
+    requires { ⌜ 8 ≤ length (now answer) ⌝ }
+    ensures { λ _. ⌜ now (answer .exit) ≡ set (now (answer .entry)) 6 (sizeCode n) ⌝ }
+{
+    answer[6] = size_code(n);
+}
+
+pub fn version(answer: &mut [u8], n: usize, tag: Tag) -> Step
+    requires { ⌜ 1024 ≤ length (now answer) ⌝ }
+    ensures { λ r. ⌜ ((img : List ℕ) → Did (version n tag) r img img (now (answer .entry)) (now (answer .exit))) ⌝ }
+{
+    tag::lay(answer, b"\x00\x1D\x04\x01\x01\x00\x00\x03");
+    set_size_code(answer, n);
+    let bits = tag::finish(answer, 8);
+    Step { bits, tag }
+}
+
+// Whether READ_CNT may show the counter.
+fn count_readable(image: &[u8], n: usize, tag: Tag) -> bool
+    requires { ⌜ Fits n (now image) ⌝ }
+    ensures { λ r. ⌜ r ≡ countReadable n (now (image .entry)) tag ⌝ }
+{
+    if image::counter_on(image, n) {
+        if image::counter_guarded(image, n) {
+            tag.authenticated()
+        } else {
+            true
+        }
+    } else {
+        false
+    }
+}
+
+pub fn read_count(image: &[u8], answer: &mut [u8], n: usize, tag: Tag, x: u8) -> Step
+    requires { ⌜ Room n (now image) (now answer) ⌝ }
+    ensures { λ r. ⌜ Did (readCount n (now (image .entry)) tag x) r (now (image .entry)) (now (image .entry)) (now (answer .entry)) (now (answer .exit)) ⌝ }
+{
+    if x != 0x02 {
+        return tag::nak(answer, tag, 0);
+    }
+    if count_readable(image, n, tag) {
+        let tail = image::page_at(image, n);
+        let counter = [tail.b0, tail.b1, tail.b2];
+        tag::lay(answer, &counter);
+        let bits = tag::finish(answer, 3);
+        Step { bits, tag }
+    } else {
+        tag::nak(answer, tag, 0)
+    }
+}
+
+fn limit_reached(image: &[u8], n: usize) -> bool
+    requires { ⌜ Fits n (now image) ⌝ }
+    ensures { λ r. ⌜ r ≡ limitReached n (now (image .entry)) ⌝ }
+{
+    let limit = image::authlim(image, n);
+    if limit == 0 {
+        false
+    } else {
+        limit <= image::failed(image, n)
+    }
+}
+
+fn same(p: Four, q: Four) -> bool
+    ensures { λ r. ⌜ r ≡ same p q ⌝ }
+{
+    if p.b0 == q.b0 {
+        if p.b1 == q.b1 {
+            if p.b2 == q.b2 {
+                return p.b3 == q.b3;
+            }
+        }
+    }
+    false
+}
+
+// A right password.
+fn accepted(image: &mut [u8], answer: &mut [u8], n: usize, tag: Tag) -> Step
+    requires { ⌜ Room n (now image) (now answer) ⌝ }
+    ensures { λ r. ⌜ Did (accepted n (now (image .entry)) tag) r (now (image .entry)) (now (image .exit)) (now (answer .entry)) (now (answer .exit)) ⌝ }
+{
+    let pack = image::page_at(image, n - 1);
+    let first = [pack.b0, pack.b1];
+    tag::lay(answer, &first);
+    let bits = tag::finish(answer, 2);
+    image::set_failed(image, n, 0);
+    let state = tag.state;
+    Step {
+        bits,
+        tag: tag.moved(state.granted()),
+    }
+}
+
+// A wrong password.
+fn rejected(image: &mut [u8], answer: &mut [u8], n: usize, tag: Tag) -> Step
+    requires { ⌜ Room n (now image) (now answer) × (limitReached n (now image) ≡ false) ⌝ }
+    ensures { λ r. ⌜ Did (rejected n (now (image .entry)) tag) r (now (image .entry)) (now (image .exit)) (now (answer .entry)) (now (answer .exit)) ⌝ }
+{
+    let limit = image::authlim(image, n);
+    if limit == 0 {
+        return tag::nak(answer, tag, 0);
+    }
+    let failed = image::failed(image, n);
+    image::set_failed(image, n, failed + 1);
+    tag::nak(answer, tag, 0)
+}
+
+pub fn pwd_auth(image: &mut [u8], answer: &mut [u8], n: usize, tag: Tag, p: Four) -> Step
+    requires { ⌜ Room n (now image) (now answer) ⌝ }
+    ensures { λ r. ⌜ Did (pwdAuth n (now (image .entry)) tag p) r (now (image .entry)) (now (image .exit)) (now (answer .entry)) (now (answer .exit)) ⌝ }
+{
+    if limit_reached(image, n) {
+        return tag::nak(answer, tag, 0);
+    }
+    let pwd = image::page_at(image, n - 2);
+    if same(p, pwd) {
+        accepted(image, answer, n, tag)
+    } else {
+        rejected(image, answer, n, tag)
+    }
+}
+
+pub fn hlta(answer: &mut [u8], tag: Tag, x: u8) -> Step
+    requires { ⌜ 1024 ≤ length (now answer) ⌝ }
+    ensures { λ r. ⌜ ((img : List ℕ) → Did (hlta tag x) r img img (now (answer .entry)) (now (answer .exit))) ⌝ }
+{
+    if x == 0x00 {
+        let state = tag.state;
+        tag::silent(tag.moved(state.halted()))
+    } else {
+        tag::nak(answer, tag, 0)
+    }
+}
+
+// What a frame asks, with its arguments.
+pub enum Command {
+    Read(u8),
+    FastRead(u8, u8),
+    Write(u8, Four),
+    Version,
+    Count(u8),
+    Auth(Four),
+    Hlta(u8),
+    Unknown,
+}
+
+fn args(frame: &[u8], i: usize) -> Four
+    requires { ⌜ (i ≤ 4) × (i + 4 ≤ length (now frame)) ⌝ }
+    ensures { λ r. ⌜ r ≡ args (now (frame .entry)) i ⌝ }
+{
+    Four {
+        b0: frame[i],
+        b1: frame[i + 1],
+        b2: frame[i + 2],
+        b3: frame[i + 3],
+    }
+}
+
+pub fn decode(frame: &[u8]) -> Command
+    requires { ⌜ 3 ≤ length (now frame) ⌝ }
+    ensures { λ r. ⌜ r ≡ commandOf (now (frame .entry)) ⌝ }
+{
+    let n = frame.len();
+    match frame[0] {
+        0x30 => {
+            if n == 4 {
+                Command::Read(frame[1])
+            } else {
+                Command::Unknown
+            }
+        }
+        0x3A => {
+            if n == 5 {
+                Command::FastRead(frame[1], frame[2])
+            } else {
+                Command::Unknown
+            }
+        }
+        0xA2 => {
+            if n == 8 {
+                Command::Write(frame[1], args(frame, 2))
+            } else {
+                Command::Unknown
+            }
+        }
+        0x60 => {
+            if n == 3 {
+                Command::Version
+            } else {
+                Command::Unknown
+            }
+        }
+        0x39 => {
+            if n == 4 {
+                Command::Count(frame[1])
+            } else {
+                Command::Unknown
+            }
+        }
+        0x1B => {
+            if n == 7 {
+                Command::Auth(args(frame, 1))
+            } else {
+                Command::Unknown
+            }
+        }
+        0x50 => {
+            if n == 4 {
+                Command::Hlta(frame[1])
+            } else {
+                Command::Unknown
+            }
+        }
+        _ => Command::Unknown,
+    }
+}
+
+fn done(image: &mut [u8], answer: &mut [u8], n: usize, tag: Tag, command: Command) -> Step
+    requires { ⌜ Room n (now image) (now answer) ⌝ }
+    ensures { λ r. ⌜ Did (done n (now (image .entry)) tag command) r (now (image .entry)) (now (image .exit)) (now (answer .entry)) (now (answer .exit)) ⌝ }
+{
+    match command {
+        Command::Read(a) => reading::read(image, answer, n, tag, a),
+        Command::FastRead(s, e) => reading::fast_read(image, answer, n, tag, s, e),
+        Command::Write(a, d) => write(image, answer, n, tag, a, d),
+        Command::Version => version(answer, n, tag),
+        Command::Count(x) => read_count(image, answer, n, tag, x),
+        Command::Auth(p) => pwd_auth(image, answer, n, tag, p),
+        Command::Hlta(x) => hlta(answer, tag, x),
+        Command::Unknown => tag::nak(answer, tag, 0),
+    }
+}
+
+// A frame in ACTIVE.
+pub fn active(
+    image: &mut [u8],
+    answer: &mut [u8],
+    n: usize,
+    tag: Tag,
+    frame: &[u8],
+    bits: usize,
+    parity: bool,
+) -> Step
+    requires { ⌜ Room n (now image) (now answer) ⌝ }
+    ensures { λ r. ⌜ Did (inActive n (now (image .entry)) tag (now (frame .entry)) bits parity) r (now (image .entry)) (now (image .exit)) (now (answer .entry)) (now (answer .exit)) ⌝ }
+{
+    if bits % 8 != 0 {
+        return tag::lost(tag);
+    }
+    if frame.len() < 3 {
+        return tag::lost(tag);
+    }
+    if parity {
+        if crc_a::is_right(frame) {
+            let command = decode(frame);
+            done(image, answer, n, tag, command)
+        } else {
+            tag::nak(answer, tag, 1)
+        }
+    } else {
+        tag::nak(answer, tag, 1)
+    }
+}
