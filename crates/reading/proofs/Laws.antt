@@ -18,23 +18,10 @@ use Rattle.tag.specs.declared.Tag.{Tag}
 use Rattle.tag.specs.declared.Step.{Step}
 use Rattle.tag.specs.State.{authenticated, answering}
 use Rattle.tag.specs.Outcome.{over, apply, Did}
-use Rattle.tag.proofs.Laws.{Naks, answered}
-use Rattle.reading.specs.Reading.{bound, build, pageByte, pagesFrom, counting, readAnswered, read, fastRead}
+use Rattle.tag.proofs.Laws.{length-build, laid, laid-suc, Naks, answered}
+use Rattle.reading.specs.Reading.{bound, pageByte, pagesFrom, counting, readAnswered, read, fastRead}
 
 -- ---- a list that is built into the front of a buffer
-
-pub length-build : (f : ℕ → ℕ) (k : ℕ) → length (build f k) ≡ k
-length-build f zero = refl
-length-build f (suc k) = ap suc (length-build (λ i. f (suc i)) k)
-
--- k of them laid over d
-abbrev pub laid : (ℕ → ℕ) → ℕ → List ℕ → List ℕ
-laid f k d = build f k ++ drop k d
-
-laid-suc : (f : ℕ → ℕ) (k : ℕ) (d : List ℕ) → k < length d → set (laid f k d) k (f k) ≡ laid f (suc k) d
-laid-suc f k [] l = absurd (not-suc-le-zero l)
-laid-suc f zero (x ∷ d) l = refl
-laid-suc f (suc k) (x ∷ d) l = ap (λ (t : List ℕ). f zero ∷ t) (laid-suc (λ i. f (suc i)) k d (le-of-suc-le-suc l))
 
 -- four more of them
 laid-four : (f : ℕ → ℕ) (k v0 v1 v2 v3 : ℕ) (d : List ℕ) → k + 4 ≤ length d → v0 ≡ f k → v1 ≡ f (suc k) → v2 ≡ f (suc (suc k)) → v3 ≡ f (suc (suc (suc k)))

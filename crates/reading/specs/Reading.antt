@@ -1,7 +1,7 @@
 -- READ and FAST_READ, after document 01's "Commands in ACTIVE": n is the number of pages, img the image, t the tag. Assumes nothing.
-use mathlib.Core.List.{List, [], _∷_}
+use mathlib.Core.List.{List}
 use mathlib.Core.Bool.{cond, not, _&&_}
-use Prim.Native.Nat.{ℕ, zero, suc, _+_, _-_, _*_, _/_, _%_}
+use Prim.Native.Nat.{ℕ, _+_, _-_, _*_, _/_, _%_}
 use lib.Dec.{leb, ltb}
 use Rattle.image.specs.Layout.{pageAt, tailPage}
 use Rattle.image.specs.Settings.{auth0, prot, counterOn}
@@ -9,18 +9,13 @@ use Rattle.image.specs.Shown.{shown}
 use Rattle.image.specs.Tail.{counted}
 use Rattle.tag.specs.declared.Tag.{Tag}
 use Rattle.tag.specs.State.{authenticated, answering}
-use Rattle.tag.specs.Outcome.{bytes, Effect, keep, put, Does, does, nak}
+use Rattle.tag.specs.Outcome.{build, bytes, Effect, keep, put, Does, does, nak}
 
 -- "Let B be AUTH0 if PROT is set, the tag isn't authenticated and AUTH0 < N; else N."
 unfoldable pub bound : ℕ → List ℕ → Tag → ℕ
 bound n img t = cond (prot n img && (not (authenticated t) && ltb (auth0 n img) n)) (auth0 n img) n
 
 -- ---- READ and FAST_READ
-
--- f 0, f 1, .., k of them
-abbrev pub build : (ℕ → ℕ) → ℕ → List ℕ
-build f zero = []
-build f (suc k) = f 0 ∷ build (λ i. f (suc i)) k
 
 -- byte j of the pages a, a+1, .., which go round at b: "PWD and PACK pages always read as zeros."
 unfoldable pub pageByte : ℕ → List ℕ → ℕ → ℕ → ℕ → ℕ

@@ -1,15 +1,15 @@
 -- Answers laid over a buffer, and what the answers without an image show. Assumes nothing.
 use mathlib.Core.Path.{_≡_, refl, ap, _∙_}
 use mathlib.Core.List.{List, [], _∷_, _++_}
-use Prim.Native.Nat.{ℕ, zero, suc, _+_, _*_, _/_, _%_, _≤_, _<_}
-use native.Mathlib.Nat.{not-suc-le-zero, le-of-suc-le-suc}
+use Prim.Native.Nat.{ℕ, zero, suc, _+_, _*_, _/_, _%_, _^_, _≤_, _<_}
+use native.Mathlib.Nat.{not-suc-le-zero, le-of-suc-le-suc, pow-suc, div-div-eq-div-mul, mod-eq-of-lt}
 use native.Mathlib.Numerals.{add-one}
 use native.Mathlib.Omega.{arith}
 use lib.ListN.{length, take, drop, set, getD, length-append, length-drop}
 use lib.Seq.{take-length, sets, sets-eq, set-split, take-at, drop-drop, drop-append-add, length-take-le}
 use Rattle.crc_a.specs.CrcA.{crcA, sent, withCrc}
 use Rattle.tag.specs.State.{moved, backToWait}
-use Rattle.tag.specs.Outcome.{silence, bytes, bitsOf, answerOf, over, keep, apply, does, Did, lost, nak}
+use Rattle.tag.specs.Outcome.{build, byteOf, lowBytes, plain, silence, bytes, bitsOf, answerOf, over, keep, apply, does, Did, lost, nak}
 use Rattle.tag.specs.declared.State.{State}
 use Rattle.tag.specs.declared.Tag.{Tag}
 use Rattle.tag.specs.declared.Step.{Step}
@@ -58,6 +58,34 @@ lay-end bs d answer i l m e =
     let q : i ≡ length bs = omega arith in
     e ∙ rw q (ap (λ (t : List ℕ). t ++ drop (length bs) d) (take-length bs))
 
+-- ---- a list that is built into the front of a buffer
+
+pub length-build : (f : ℕ → ℕ) (k : ℕ) → length (build f k) ≡ k
+length-build f zero = refl
+length-build f (suc k) = ap suc (length-build (λ i. f (suc i)) k)
+
+-- k of them laid over d
+abbrev pub laid : (ℕ → ℕ) → ℕ → List ℕ → List ℕ
+laid f k d = build f k ++ drop k d
+
+pub laid-suc : (f : ℕ → ℕ) (k : ℕ) (d : List ℕ) → k < length d → set (laid f k d) k (f k) ≡ laid f (suc k) d
+laid-suc f k [] l = absurd (not-suc-le-zero l)
+laid-suc f zero (x ∷ d) l = refl
+laid-suc f (suc k) (x ∷ d) l = ap (λ (t : List ℕ). f zero ∷ t) (laid-suc (λ i. f (suc i)) k d (le-of-suc-le-suc l))
+
+pub laid-end : (f : ℕ → ℕ) (i k : ℕ) (answer d : List ℕ) → i ≤ k → k ≤ i → answer ≡ laid f i d → answer ≡ over (build f k) d
+unfolding over
+laid-end f i k answer d l m e = let q : i ≡ k = omega arith in rw (length-build f k) (e ∙ ap (λ (j : ℕ). laid f j d) q)
+
+-- a number's bytes, one by one
+pub byte-turn : (v rest i count : ℕ) (answer d : List ℕ) → i < count → (count ≤ 8) × (count ≤ length d) → rest ≡ v / 256 ^ i → answer ≡ laid (byteOf v) i d
+    → set answer i (rest % 256) ≡ laid (byteOf v) (i + 1) d
+unfolding byteOf
+byte-turn v rest i count answer d l m e f = rw (f, e, add-one) (laid-suc (byteOf v) i d (omega arith))
+
+pub byte-next : (v rest i : ℕ) → rest ≡ v / 256 ^ i → rest / 256 ≡ v / 256 ^ (i + 1)
+byte-next v rest i e = rw (e, add-one, pow-suc) (div-div-eq-div-mul v (256 ^ i) 256)
+
 -- ---- silence and nibbles
 
 -- no answer, for every image and buffer
@@ -81,6 +109,13 @@ pub nak-done : (t t′ : Tag) (s : State) (v : ℕ) (before : List ℕ) → s �
 unfolding nak apply bitsOf answerOf over
 nak-done t t′ s v before e f l img =
     record { image = refl; bits = refl; tag = f ∙ rw e; answer = (let q : v % 16 ≡ v = omega arith in rw q (set-split before 0 v (l .0))) }
+
+-- ---- bits of a number
+
+pub plain-done : (t : Tag) (k v : ℕ) (before after : List ℕ) → (k ≤ 40) × (v < 2 ^ k) × (5 ≤ length before) → after ≡ over (lowBytes ((k + 7) / 8) v) before
+    → (img : List ℕ) → Did (does (plain k v) keep t) (record { bits = k; tag = t }) img img before after
+unfolding apply bitsOf answerOf
+plain-done t k v before after l e img = record { image = refl; bits = refl; tag = refl; answer = rw (mod-eq-of-lt (l .1)) e }
 
 -- ---- bytes, with their CRC_A behind them
 

@@ -24,10 +24,17 @@ bitsOf (nibble v) = 4
 bitsOf (bytes bs) = 8 * (length bs + 2)
 bitsOf (plain k v) = k
 
+-- f 0, f 1, .., k of them
+abbrev pub build : (ℕ → ℕ) → ℕ → List ℕ
+build f zero = []
+build f (suc k) = f 0 ∷ build (λ i. f (suc i)) k
+
 -- the low k bytes of a number, least significant first
+unfoldable pub byteOf : ℕ → ℕ → ℕ
+byteOf v i = v / 256 ^ i % 256
+
 unfoldable pub lowBytes : ℕ → ℕ → List ℕ
-lowBytes zero v = []
-lowBytes (suc k) v = v % 256 ∷ lowBytes k (v / 256)
+lowBytes k v = build (byteOf v) k
 
 -- "that many bits from the buffer's start, bits packed least significant first"; "Unused high bits of the last byte are zero."
 unfoldable pub answerOf : Reply → List ℕ

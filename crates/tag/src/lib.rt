@@ -1,11 +1,11 @@
 // The tag's radio state, and the answers that take no image: silence, ACK and NAK.
 ghost use mathlib.Core.Path.{_≡_};
 ghost use mathlib.Core.List.{List};
-ghost use Prim.Native.Nat.{ℕ, _+_, _*_, _≤_, _<_};
+ghost use Prim.Native.Nat.{ℕ, _+_, _*_, _^_, _≤_, _<_};
 ghost use lib.ListN.{length, take};
 ghost use Rattle.crc_a.specs.CrcA.{withCrc};
 ghost use Rattle.tag.specs.State.{fieldOff, moved, woken, waitState, backToWait, selected, halted, granted, authenticated, answering};
-ghost use Rattle.tag.specs.Outcome.{silence, keep, over, does, Did, lost, nak};
+ghost use Rattle.tag.specs.Outcome.{silence, plain, keep, lowBytes, over, does, Did, lost, nak};
 
 // The state to go back to.
 pub enum Wait {
@@ -192,4 +192,27 @@ pub fn finish(answer: &mut [u8], n: usize) -> usize
 {
     crc_a::append(answer, n);
     8 * (n + 2)
+}
+
+// The low bytes of a number go into the answer, from its start on.
+fn lay_number(answer: &mut [u8], v: u64, count: usize)
+    requires { ⌜ (count ≤ 8) × (count ≤ length (now answer)) ⌝ }
+    ensures { λ _. ⌜ now (answer .exit) ≡ over (lowBytes count v) (now (answer .entry)) ⌝ }
+{
+    let mut rest = v;
+    let mut i: usize = 0;
+    while i < count {
+        answer[i] = (rest % 256) as u8;
+        rest = rest / 256;
+        i += 1;
+    }
+}
+
+// An answer of some bits of a number, without CRC_A.
+pub fn plain(answer: &mut [u8], tag: Tag, bits: usize, v: u64) -> Step
+    requires { ⌜ (bits ≤ 40) × (v < 2 ^ bits) × (5 ≤ length (now answer)) ⌝ }
+    ensures { λ r. ⌜ ((img : List ℕ) → Did (does (plain bits v) keep tag) r img img (now (answer .entry)) (now (answer .exit))) ⌝ }
+{
+    lay_number(answer, v, (bits + 7) / 8);
+    Step { bits, tag }
 }

@@ -4,7 +4,8 @@ use Prim.Native.Nat.{_+_, _-_, _*_, _%_, _≤_, _<_}
 use lib.ListN.{length}
 use borrow.Author.Needs.{needs}
 use Rattle.reading.specs.Reading.{pageByte}
-use Rattle.reading.proofs.Laws.{laid, page-first, page-next, pages-turn, pages-length, pages-end}
+use Rattle.tag.proofs.Laws.{laid}
+use Rattle.reading.proofs.Laws.{page-first, page-next, pages-turn, pages-length, pages-end}
 use Rattle.reading.proofs.lay_pages.Statement.{statement}
 use Rattle.reading.proofs.lay_pages.Tie as tie
 
