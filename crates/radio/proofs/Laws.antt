@@ -1,0 +1,184 @@
+-- What each way through the record and the frame call shows. Assumes nothing.
+use mathlib.Core.Path.{_≡_, refl, sym, ap, _∙_, subst⁻¹}
+use mathlib.Core.List.{List}
+use mathlib.Core.Bool.{Bool, true, false}
+use Prim.Native.Nat.{ℕ, _+_, _*_, _/_, _%_, _^_, _≤_, _<_}
+use native.Mathlib.Nat.{div-lt-iff-lt-mul}
+use native.Mathlib.Omega.{arith}
+use lib.Dec.{eqb, ltb}
+use lib.ListN.{length, drop, getD, length-append, List·getD-eq-default}
+use lib.Pow.{pow-pos}
+use borrow.Author.Tests.{ltb-true, ltb-false, ne-eqb, eq-eqb, lt-ltb, le-ltb, le-leb, lt-leb}
+use Rattle.image.specs.declared.Size.{Size}
+use Rattle.image.specs.declared.Size.the-variants.{Pages, Unknown}
+use Rattle.image.specs.Layout.{sizeOf, Fits}
+use Rattle.image.proofs.Laws as image
+use Rattle.tag.specs.declared.Wait.{Wait}
+use Rattle.tag.specs.declared.State.{State}
+use Rattle.tag.specs.declared.State.the-variants.{Ready1, Ready2, Active}
+use Rattle.tag.specs.declared.Tag.{Tag}
+use Rattle.tag.specs.declared.Step.{Step}
+use Rattle.tag.specs.State.{fieldOff}
+use Rattle.tag.specs.Outcome.{Reply, silence, nibble, bytes, plain, lowBytes, bitsOf, answerOf, over, apply, Did}
+use Rattle.tag.proofs.Laws.{length-with-crc, length-build}
+use Rattle.radio.specs.Record.{waitOf, stateOf, meant, tagOf, flagOf, waitNumber, recordIn, recordOf}
+use Rattle.radio.specs.Call.{heardIn, heard, padded, isFrame, refusal, taken, calledAt, called, Met}
+use Rattle.radio.specs.declared.TagRecord.{TagRecord}
+use Rattle.radio.specs.declared.Answer.{Answer}
+
+-- ---- the record
+
+module _ (r : TagRecord) where
+  pub meant-state : 5 ≤ r .state → false ≡ meant r
+  unfolding meant
+  meant-state l = simp (le-ltb (r .state) 5 l)
+
+  pub meant-wait : r .state < 5 → 2 ≤ r .wait → false ≡ meant r
+  unfolding meant
+  meant-wait a l = simp (lt-ltb (r .state) 5 a, le-ltb (r .wait) 2 l)
+
+  pub meant-granted : r .state < 5 → r .wait < 2 → 2 ≤ r .authenticated → false ≡ meant r
+  unfolding meant
+  meant-granted a b l = simp (lt-ltb (r .state) 5 a, lt-ltb (r .wait) 2 b, le-ltb (r .authenticated) 2 l)
+
+  pub meant-answered : r .state < 5 → r .wait < 2 → r .authenticated < 2 → ltb (r .answered) 2 ≡ meant r
+  unfolding meant
+  meant-answered a b c = simp (lt-ltb (r .state) 5 a, lt-ltb (r .wait) 2 b, lt-ltb (r .authenticated) 2 c)
+
+  pub tag-meant : (b : Bool) (w : Wait) (s : State) → b ≡ meant r → b ≡ true → w ≡ waitOf (r .wait) → s ≡ stateOf (r .state) w (eqb (r .authenticated) 1)
+      → _≡_ {A = Tag} (record { state = s; answered = eqb (r .answered) 1 }) (tagOf r)
+  unfolding tagOf
+  tag-meant b w s e h f g = rw (← e, h, ← f, ← g)
+
+  pub tag-lost : (b : Bool) (t : Tag) → b ≡ meant r → b ≡ false → t ≡ fieldOff → t ≡ tagOf r
+  unfolding tagOf
+  tag-lost b t e h f = rw (← e, h) f
+
+module _ (t : Tag) (a : ℕ) (s : State) (r : TagRecord) (e : s ≡ t .state) (g : a ≡ flagOf (t .answered)) where
+  pub written-in : (s′ : State) → s ≡ s′ → r ≡ recordIn s′ a → r ≡ recordOf t
+  unfolding recordOf
+  written-in s′ f h = subst⁻¹ (λ (x : State). r ≡ recordIn x (flagOf (t .answered))) (sym e ∙ f) (h ∙ ap (recordIn s′) g)
+
+  module _ (w : Wait) (k : ℕ) (q : k ≡ waitNumber w) where
+    pub written-ready1 : s ≡ Ready1 w → r ≡ record { state = 2; wait = k; authenticated = 0; answered = a } → r ≡ recordOf t
+    written-ready1 f h = written-in (Ready1 w) f (unfold recordIn in rw (← q) h)
+
+    pub written-ready2 : s ≡ Ready2 w → r ≡ record { state = 3; wait = k; authenticated = 0; answered = a } → r ≡ recordOf t
+    written-ready2 f h = written-in (Ready2 w) f (unfold recordIn in rw (← q) h)
+
+    pub written-active : (g : Bool) (x : ℕ) → s ≡ Active w g → x ≡ flagOf g → r ≡ record { state = 4; wait = k; authenticated = x; answered = a } → r ≡ recordOf t
+    written-active g x f y h = written-in (Active w g) f (unfold recordIn in rw (← q, ← y) h)
+
+-- ---- the state
+
+module _ (n : ℕ) (img : List ℕ) (t : Tag) (f : List ℕ) (bits : ℕ) (parity : Bool) (r : Step) (s s′ : State) (e : s ≡ t .state) (g : s ≡ s′) (before after : List ℕ) where
+  pub heard-by : (image′ : List ℕ) → Did (heardIn s′ n img t f bits parity) r img image′ before after → Did (heard n img t f bits parity) r img image′ before after
+  unfolding heard
+  heard-by image′ h = subst⁻¹ (λ (x : State). Did (heardIn x n img t f bits parity) r img image′ before after) (sym e ∙ g) h
+
+  -- where the image isn't lent for a change
+  pub heard-any : ((i : List ℕ) → Did (heardIn s′ n img t f bits parity) r i i before after) → Did (heard n img t f bits parity) r img img before after
+  heard-any h = heard-by img (h img)
+
+-- ---- refusals
+
+module _ (f : List ℕ) (bits : ℕ) where
+  pub padded-whole : bits % 8 ≡ 0 → true ≡ padded f bits
+  unfolding padded
+  padded-whole e = rw e
+
+  pub padded-by : (bits % 8 ≡ 0 → ⊥) → eqb (getD f (bits / 8) 0 / 2 ^ (bits % 8)) 0 ≡ padded f bits
+  unfolding padded
+  padded-by ne = rw (ne-eqb (bits % 8) 0 ne) (pick (ltb x (2 ^ k)) refl)
+    where
+      x : ℕ
+      x = getD f (bits / 8) 0
+
+      k : ℕ
+      k = bits % 8
+
+      pick : (t : Bool) → ltb x (2 ^ k) ≡ t → eqb (x / 2 ^ k) 0 ≡ t
+      pick true e = let l = div-lt-iff-lt-mul {k = 2 ^ k} {x = x} {y = 1} (pow-pos k) .1 (let m = ltb-true x (2 ^ k) e in omega arith) in eq-eqb (x / 2 ^ k) 0 (omega arith)
+      pick false e = ne-eqb (x / 2 ^ k) 0 (λ z. let m = ltb-false x (2 ^ k) e in let l = div-lt-iff-lt-mul {k = 2 ^ k} {x = x} {y = 1} (pow-pos k) .0 (omega arith) in omega arith)
+
+  pub padded-past : (bits % 8 ≡ 0 → ⊥) → length f ≤ bits / 8 → true ≡ padded f bits
+  unfolding padded
+  padded-past ne l = rw (ne-eqb (bits % 8) 0 ne, List·getD-eq-default f 0 l) (sym (lt-ltb 0 (2 ^ (bits % 8)) (pow-pos (bits % 8))))
+
+  pub frame-none : bits < 1 → false ≡ isFrame f bits
+  unfolding isFrame
+  frame-none l = simp (lt-leb 1 bits l)
+
+  pub frame-long : 1 ≤ bits → 512 < bits → false ≡ isFrame f bits
+  unfolding isFrame
+  frame-long l m = simp (le-leb 1 bits l, lt-leb bits 512 m)
+
+  pub frame-count : 1 ≤ bits → bits ≤ 512 → (length f ≡ (bits + 7) / 8 → ⊥) → false ≡ isFrame f bits
+  unfolding isFrame
+  frame-count l m ne = simp (le-leb 1 bits l, le-leb bits 512 m, ne-eqb (length f) ((bits + 7) / 8) ne)
+
+  pub frame-padded : (b : Bool) → 1 ≤ bits → bits ≤ 512 → length f ≡ (bits + 7) / 8 → b ≡ padded f bits → b ≡ isFrame f bits
+  unfolding isFrame
+  frame-padded b l m e h = rw (le-leb 1 bits l, le-leb bits 512 m, eq-eqb (length f) ((bits + 7) / 8) e) h
+
+-- a refusal, for every image and buffer
+abbrev pub Refused : ℕ → TagRecord → Answer → Type 0
+Refused k held r = (img before : List ℕ) → Met (refusal k held) r img img before before
+
+pub refused-done : (k : ℕ) (held : TagRecord) → Refused k held (record { refused = k; bits = 0; left = held })
+unfolding refusal bitsOf answerOf over apply
+refused-done k held img before = record { refused = refl; bits = refl; left = refl; image = refl; answer = refl; fits = omega arith }
+
+-- ---- the call
+
+-- an answer's bits fit the bytes that it takes
+bits-fit : (o : Reply) → bitsOf o ≤ 8 * length (answerOf o)
+unfolding bitsOf answerOf lowBytes
+bits-fit silence = omega arith
+bits-fit (nibble v) = omega arith
+bits-fit (bytes bs) = omega (arith, length-with-crc bs)
+bits-fit (plain k v) = rw length-build (omega arith)
+
+-- and these the buffer, whose length stays
+answer-fits : (a before after : List ℕ) → after ≡ over a before → length after ≡ length before → length a ≤ length before
+unfolding over
+answer-fits a before after e l = omega (arith, ap length e, length-append a (drop (length a) before))
+
+module _ (n : ℕ) (img : List ℕ) (held : TagRecord) (f : List ℕ) (bits : ℕ) (parity : Bool) (before : List ℕ) where
+  pub call-narrow : (r : Answer) → length before < 1024 → Refused 2 held r → Met (calledAt (Pages n) img (length before) held f bits parity) r img img before before
+  unfolding calledAt
+  call-narrow r l h = rw (lt-leb 1024 (length before) l) (h img before)
+
+  pub call-unframed : (r : Answer) (b : Bool) → 1024 ≤ length before → b ≡ isFrame f bits → b ≡ false → Refused 3 held r
+      → Met (calledAt (Pages n) img (length before) held f bits parity) r img img before before
+  unfolding calledAt
+  call-unframed r b l e g h = rw (le-leb 1024 (length before) l, ← e, g) (h img before)
+
+  pub call-done : (b : Bool) (t : Tag) (step : Step) (left : TagRecord) (image′ after : List ℕ) → 1024 ≤ length before → b ≡ isFrame f bits → b ≡ true → t ≡ tagOf held
+      → Did (heard n img t f bits parity) step img image′ before after → left ≡ recordOf (step .tag) → length after ≡ length before
+      → Met (calledAt (Pages n) img (length before) held f bits parity) (record { refused = 0; bits = step .bits; left = left }) img image′ before after
+  unfolding calledAt taken
+  call-done b t step left image′ after l e g q d w k =
+      let o = heard n img t f bits parity .reply in
+      rw (le-leb 1024 (length before) l, ← e, g, ← q)
+      (record {
+        refused = refl;
+        bits = d .bits;
+        left = w ∙ ap recordOf (d .tag);
+        image = d .image;
+        answer = d .answer;
+        fits = rw (d .bits) (omega (arith, bits-fit o, answer-fits (answerOf o) before after (d .answer) k));
+      })
+
+pub found-fits : (n : ℕ) (img : List ℕ) (s : Size) → s ≡ sizeOf (length img) → s ≡ Pages n → Fits n img
+found-fits n img s e h = image.fits n img (sym e ∙ h)
+
+module _ (img : List ℕ) (held : TagRecord) (f : List ℕ) (bits : ℕ) (parity : Bool) (before : List ℕ) (s : Size) (r : Answer) (e : s ≡ sizeOf (length img)) where
+  pub call-sized : (n : ℕ) (image′ after : List ℕ) → s ≡ Pages n → Met (calledAt (Pages n) img (length before) held f bits parity) r img image′ before after
+      → Met (called img (length before) held f bits parity) r img image′ before after
+  unfolding called
+  call-sized n image′ after g h = rw (← e, g) h
+
+  pub call-unsized : s ≡ Unknown → Refused 1 held r → Met (called img (length before) held f bits parity) r img img before before
+  unfolding called calledAt
+  call-unsized g h = rw (← e, g) (h img before)

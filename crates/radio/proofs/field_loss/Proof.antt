@@ -1,0 +1,16 @@
+-- `radio::field_loss` meets its contract. Assumes nothing.
+use borrow.Author.Needs.{needs}
+use Rattle.radio.specs.Record.{fieldLoss}
+use Rattle.radio.proofs.field_loss.Statement.{statement}
+use Rattle.radio.proofs.field_loss.Tie as tie
+
+returns : tie.Need-returns
+unfolding fieldLoss
+returns c = search needs
+
+pub field-loss-spec : {M : Type 1} → statement M
+field-loss-spec =
+    tie.close
+    (tie.spec
+    (λ c κs. search needs)
+    returns)
