@@ -13,7 +13,7 @@ use Rattle.tag.specs.declared.State.the-variants.{Idle, Halt, Ready1, Ready2, A
 use Rattle.tag.specs.declared.Tag.{Tag}
 use Rattle.tag.specs.Outcome.{Reply, silence, bitsOf, answerOf, over, Effect, keep, apply, Does}
 use Rattle.selection.specs.Selection.{inIdle, inHalt, inReady1, inReady2}
-use Rattle.commands.specs.Frame.{inActive}
+use Rattle.active.specs.Frame.{inActive}
 use Rattle.radio.specs.Record.{tagOf, recordOf}
 use Rattle.radio.specs.declared.TagRecord.{TagRecord}
 use Rattle.radio.specs.declared.Answer.{Answer}

@@ -159,7 +159,7 @@ fn hear(
         State::Halt => selection::halt(answer, tag, frame, bits),
         State::Ready1(_) => selection::ready1(image, answer, tag, frame, bits, parity),
         State::Ready2(_) => selection::ready2(image, answer, tag, frame, bits, parity),
-        State::Active(_, _) => commands::active(image, answer, n, tag, frame, bits, parity),
+        State::Active(_, _) => active::active(image, answer, n, tag, frame, bits, parity),
     }
 }
 

@@ -1,9 +1,9 @@
--- `commands::done` meets its contract. Assumes nothing.
+-- `active::done` meets its contract. Assumes nothing.
 use borrow.Author.Needs.{needs}
-use Rattle.commands.specs.Frame.{done}
-use Rattle.commands.proofs.Frames.{arm, arm-without}
-use Rattle.commands.proofs.done.Statement.{statement}
-use Rattle.commands.proofs.done.Tie as tie
+use Rattle.active.specs.Frame.{done}
+use Rattle.active.proofs.Laws.{arm, arm-without}
+use Rattle.active.proofs.done.Statement.{statement}
+use Rattle.active.proofs.done.Tie as tie
 
 returns : tie.Need-returns
 unfolding done

@@ -9,9 +9,9 @@ use Rattle.image.specs.declared.Four.{Four}
 use Rattle.tag.specs.declared.Tag.{Tag}
 use Rattle.tag.specs.Outcome.{Does, lost, nak}
 use Rattle.reading.specs.Reading.{read, fastRead}
 use Rattle.commands.specs.Commands.{write, version, readCount, pwdAuth, hlta}
-use Rattle.commands.specs.declared.Command.{Command}
-use Rattle.commands.specs.declared.Command.the-variants.{Read, FastRead, Write, Version, Count, Auth, Hlta, Unknown}
+use Rattle.active.specs.declared.Command.{Command}
+use Rattle.active.specs.declared.Command.the-variants.{Read, FastRead, Write, Version, Count, Auth, Hlta, Unknown}
 
 -- byte i of a frame
 abbrev pub arg : List ℕ → ℕ → ℕ

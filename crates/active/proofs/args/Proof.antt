@@ -1,9 +1,9 @@
--- `commands::args` meets its contract. Assumes nothing.
+-- `active::args` meets its contract. Assumes nothing.
 use borrow.Author.Needs.{needs}
 use mathlib.Core.Path.{refl}
-use Rattle.commands.specs.Frame.{args}
-use Rattle.commands.proofs.args.Statement.{statement}
-use Rattle.commands.proofs.args.Tie as tie
+use Rattle.active.specs.Frame.{args}
+use Rattle.active.proofs.args.Statement.{statement}
+use Rattle.active.proofs.args.Tie as tie
 
 returns : tie.Need-returns
 unfolding args

@@ -1,9 +1,9 @@
--- `commands::decode` meets its contract. Assumes nothing.
+-- `active::decode` meets its contract. Assumes nothing.
 use borrow.Author.Needs.{needs}
-use Rattle.commands.specs.Frame.{lengthOf, named}
-use Rattle.commands.proofs.Frames.{codes}
-use Rattle.commands.proofs.decode.Statement.{statement}
-use Rattle.commands.proofs.decode.Tie as tie
+use Rattle.active.specs.Frame.{lengthOf, named}
+use Rattle.active.proofs.Laws.{codes}
+use Rattle.active.proofs.decode.Statement.{statement}
+use Rattle.active.proofs.decode.Tie as tie
 
 returns : tie.Need-returns
 unfolding lengthOf named

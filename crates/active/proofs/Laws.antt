@@ -11,9 +11,9 @@ use Rattle.tag.specs.declared.Tag.{Tag}
 use Rattle.tag.specs.declared.Step.{Step}
 use Rattle.tag.specs.Outcome.{Did, lost}
 use Rattle.tag.proofs.Laws.{Naks}
-use Rattle.commands.specs.Frame.{lengthOf, named, commandOf, done, inActive}
-use Rattle.commands.specs.declared.Command.{Command}
-use Rattle.commands.specs.declared.Command.the-variants.{Unknown}
+use Rattle.active.specs.Frame.{lengthOf, named, commandOf, done, inActive}
+use Rattle.active.specs.declared.Command.{Command}
+use Rattle.active.specs.declared.Command.the-variants.{Unknown}
 
 -- ---- which command a frame is
 

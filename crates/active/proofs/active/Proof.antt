@@ -1,8 +1,8 @@
--- `commands::active` meets its contract. Assumes nothing.
+-- `active::active` meets its contract. Assumes nothing.
 use borrow.Author.Needs.{needs}
-use Rattle.commands.proofs.Frames.{part-bytes, too-short, bad-parity, bad-crc, command-done}
-use Rattle.commands.proofs.active.Statement.{statement}
-use Rattle.commands.proofs.active.Tie as tie
+use Rattle.active.proofs.Laws.{part-bytes, too-short, bad-parity, bad-crc, command-done}
+use Rattle.active.proofs.active.Statement.{statement}
+use Rattle.active.proofs.active.Tie as tie
 
 returns : tie.Need-returns
 returns c = search part-bytes
