@@ -1,0 +1,4 @@
+pub mod Tests
+pub mod Change
+pub mod Kept
+pub mod Demand

@@ -1,0 +1,16 @@
+-- `two_wire::byte_at` meets its contract. Assumes nothing.
+use borrow.Author.Needs.{needs}
+use Rattle.two_wire.proofs.Laws.{byte-shown}
+use Rattle.two_wire.proofs.byte_at.Statement.{statement}
+use Rattle.two_wire.proofs.byte_at.Tie as tie
+
+returns : tie.Need-returns
+returns c = search byte-shown
+
+pub byte-at-spec : {M : Type 1} → statement M
+byte-at-spec =
+    tie.close
+    (tie.spec
+    (λ c κs. search needs)
+    (λ c κs. search needs)
+    returns)

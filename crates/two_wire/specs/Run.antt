@@ -1,0 +1,48 @@
+-- Events one after the other. Assumes nothing.
+use mathlib.Core.List.{List, [], _∷_}
+use Prim.Native.Nat.{ℕ, zero, suc}
+use Rattle.two_wire.specs.Record.{gathers}
+use Rattle.two_wire.specs.Step.{start, stop, byteSent, byteReadAck, writeCode, readCode, after, does}
+use Rattle.two_wire.specs.declared.BusAnswer.{BusAnswer}
+use Rattle.two_wire.specs.declared.BusRecord.{BusRecord}
+
+-- data bytes gathered one after the other
+unfoldable pub gathersAll : BusRecord → List ℕ → BusRecord
+gathersAll r [] = r
+gathersAll r (b ∷ bs) = gathersAll (gathers r b) bs
+
+-- what there is between two events
+pub record Wires : Type 0 where
+  pub image : List ℕ
+  pub bus : BusRecord
+
+unfoldable pub answerTo : Wires → ℕ → ℕ → BusAnswer
+answerTo w event b = does (w .image) (w .bus) event b .step .answer
+
+unfoldable pub afterEvent : Wires → ℕ → ℕ → Wires
+afterEvent w event b =
+    let o = does (w .image) (w .bus) event b in
+    record { image = after (w .image) (o .effect); bus = o .step .bus }
+
+abbrev pub afterStart : Wires → Wires
+afterStart w = afterEvent w start 0
+
+abbrev pub afterStop : Wires → Wires
+afterStop w = afterEvent w stop 0
+
+unfoldable pub afterBytes : Wires → List ℕ → Wires
+afterBytes w [] = w
+afterBytes w (b ∷ bs) = afterBytes (afterEvent w byteSent b) bs
+
+-- start, A0h, the address and data bytes
+abbrev pub afterWrite : Wires → ℕ → ℕ → List ℕ → Wires
+afterWrite w h l bs = afterBytes (afterStart w) (writeCode ∷ h ∷ l ∷ bs)
+
+-- start, A1h
+abbrev pub afterReadCode : Wires → Wires
+afterReadCode w = afterBytes (afterStart w) (readCode ∷ [])
+
+-- the answers to k reads with ACK
+unfoldable pub answersTo : Wires → ℕ → List BusAnswer
+answersTo w zero = []
+answersTo w (suc k) = answerTo w byteReadAck 0 ∷ answersTo (afterEvent w byteReadAck 0) k
