@@ -3,39 +3,34 @@
 use mathlib.Core.Path.{_≡_, refl, sym, ap, _∙_}
 use mathlib.Core.List.{List, [], _∷_}
 use mathlib.Core.Bool.{Bool, true, false, not, cond, _&&_, _||_}
-use Prim.Native.Nat.{ℕ, _+_, _-_, _*_, _/_, _%_, _^_, _≤_, _<_}
+use Prim.Native.Nat.{ℕ, _+_, _-_, _*_, _/_, _%_, _^_, _≤_}
 use native.Mathlib.Nat.{le-refl}
 use native.Mathlib.Omega.{arith}
 use lib.Dec.{eqb, leb, ltb}
 use lib.ListN.{length, getD}
-use borrow.Author.Tests.{eqb-true, eqb-false, leb-true, eq-eqb}
+use borrow.Author.Tests.{eqb-true, eq-eqb}
 use Rattle.crc_a.specs.CrcA.{crcRight}
 use Rattle.image.specs.declared.Four.{Four}
-use Rattle.image.specs.declared.Size.the-variants.{Pages}
-use Rattle.image.specs.Layout.{sizeOf, byte, pageAt, pwdPage, packPage}
+use Rattle.image.specs.Layout.{byte, pageAt, pwdPage, packPage}
 use Rattle.image.specs.Settings.{counterOn, authlim}
 use Rattle.image.specs.Write.{written}
-use Rattle.image.specs.Tail.{counterIn, nextCount, counted, withFailed, failed}
+use Rattle.image.specs.Tail.{counterIn, counted, withFailed}
 use Rattle.image.proofs.Laws.{next-not-less, counter-counted}
 use Rattle.tag.specs.declared.Wait.{Wait}
 use Rattle.tag.specs.declared.Wait.the-variants.{ToIdle, ToHalt}
 use Rattle.tag.specs.declared.State.{State}
 use Rattle.tag.specs.declared.State.the-variants.{Idle, Halt, Ready1, Ready2, Active}
 use Rattle.tag.specs.declared.Tag.{Tag}
-use Rattle.tag.specs.State.{fieldOff, moved, woken, waitState, backToWait, selected, halted, granted, authenticatedIn, authenticated, answering}
+use Rattle.tag.specs.State.{moved, woken, waitState, backToWait, selected, halted, authenticatedIn, authenticated, answering}
 use Rattle.tag.specs.Outcome.{Reply, silence, nibble, bytes, plain, bitsOf, answerOf, Effect, keep, put, Does, does, lost, nak}
-use Rattle.tag.proofs.Laws.{length-with-crc}
-use Rattle.reading.specs.Reading.{bound, pagesFrom, counting, readAnswered, read, fastRead}
+use Rattle.reading.specs.Reading.{bound, counting, readAnswered, read, fastRead}
 use Rattle.commands.specs.Commands.{refuses, write, version, countReadable, readCount, limitReached, same, failing, accepted, rejected, pwdAuth, hlta}
 use Rattle.active.specs.declared.Command.{Command}
 use Rattle.active.specs.declared.Command.the-variants.{Read, FastRead, Write, Version, Count, Auth, Hlta, Unknown}
 use Rattle.active.specs.Frame.{lengthOf, named, commandOf, done, inActive}
 use Rattle.selection.specs.Selection.{isReqa, isWupa, wakes, inIdle, inHalt, own1, own2, sent, asks, known, anticollision, select, inReady, inReady1, inReady2}
-use Rattle.radio.specs.declared.TagRecord.{TagRecord}
-use Rattle.radio.specs.Record.{tagOf, recordOf}
-use Rattle.radio.specs.Call.{Called, heardIn, heard, isFrame, padded, refusal, taken, calledAt, called}
-use Rattle.radio.proofs.Once.{read-again}
-use Rattle.demands.specs.Run.{Frame, ours, acks, carries, offers}
+use Rattle.radio.specs.Call.{heardIn, heard}
+use Rattle.demands.specs.Run.{Frame, carries, offers}
 use Rattle.demands.proofs.Tests.{by, split, never, and-left, and-right}
 
 -- four bits, Ah

@@ -1,7 +1,7 @@
 -- Demand 3, by induction over the run from what one input keeps. Assumes nothing.
 use mathlib.Core.Path.{_≡_, refl, sym, ap, _∙_}
 use mathlib.Core.List.{List, [], _∷_, _++_}
-use mathlib.Core.Bool.{Bool, true, false, not, cond, _&&_}
+use mathlib.Core.Bool.{Bool, true, false, not}
 use Prim.Native.Nat.{ℕ, _+_, _-_, _/_, _≤_, _<_}
 use native.Mathlib.Nat.{le-refl, le-trans}
 use native.Mathlib.Omega.{arith}
@@ -12,8 +12,8 @@ use Rattle.image.specs.declared.Four.{Four}
 use Rattle.image.specs.declared.Region.the-variants.{User}
 use Rattle.image.specs.declared.Size.{Size}
 use Rattle.image.specs.declared.Size.the-variants.{Pages, Unknown}
-use Rattle.image.specs.Layout.{sizeOf, Fits, byte, pageAt, firstSettings, secondSettings, pwdPage, regionOf}
-use Rattle.image.specs.Settings.{auth0, access, settingsLocked}
+use Rattle.image.specs.Layout.{sizeOf, pageAt, firstSettings, secondSettings, pwdPage, regionOf}
+use Rattle.image.specs.Settings.{auth0, settingsLocked}
 use Rattle.image.specs.Write.{locked, NoneCleared}
 use Rattle.image.specs.Tail.{counter}
 use Rattle.image.proofs.Laws.{fits}
@@ -21,17 +21,17 @@ use Rattle.image.proofs.Stored.{length-store}
 use Rattle.image.proofs.Kept.{stays-locked}
 use Rattle.tag.specs.declared.Tag.{Tag}
 use Rattle.tag.specs.State.{fieldOff, authenticatedIn, authenticated}
-use Rattle.tag.specs.Outcome.{Effect, keep, put, apply, silence, bitsOf}
+use Rattle.tag.specs.Outcome.{Effect, keep, put, apply, bitsOf}
 use Rattle.active.specs.Frame.{commandOf}
 use Rattle.radio.specs.declared.TagRecord.{TagRecord}
-use Rattle.radio.specs.Record.{tagOf, recordOf, fieldLoss}
-use Rattle.radio.specs.Call.{Called, heard, padded, isFrame, refusal, taken, calledAt, called}
+use Rattle.radio.specs.Record.{tagOf, fieldLoss}
+use Rattle.radio.specs.Call.{Called, padded, isFrame, refusal, taken, calledAt, called}
 use Rattle.radio.proofs.Once.{read-again}
 use Rattle.demands.specs.Run.{Frame, Input, sent, lost, Call, ours, Board, fromOff, next, atEnd, imageAfter, acks, newFor, lastWritten, offers, noneOffers}
 use Rattle.demands.specs.Demand.{Meets2, Demand3, Holds, Keeps3}
-use Rattle.demands.proofs.Tests.{by, split, never, and-left, and-right, not-true}
+use Rattle.demands.proofs.Tests.{by, never, and-left, and-right, not-true}
 use Rattle.demands.proofs.Change.{Change, kept, heard-step}
-use Rattle.demands.proofs.Kept.{none-cleared-self, none-cleared-trans, refuses-locked, refuses-settings, refuses-protected, user-within, fits-after, page-kept, clears-none, counter-after, user-after}
+use Rattle.demands.proofs.Kept.{none-cleared-self, none-cleared-trans, refuses-locked, refuses-settings, refuses-protected, user-within, page-kept, clears-none, counter-after, user-after}
 
 -- ---- one call
 

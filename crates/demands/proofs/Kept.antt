@@ -1,34 +1,31 @@
 -- What one change keeps, field by field of demand 3. Assumes nothing.
-use mathlib.Core.Path.{_≡_, refl, sym, ap, _∙_}
-use mathlib.Core.Logic.{_≢_}
+use mathlib.Core.Path.{_≡_, refl, sym, _∙_}
 use mathlib.Core.List.{List}
-use mathlib.Core.Bool.{Bool, true, false, not, cond, _&&_, _||_}
-use Prim.Native.Nat.{ℕ, _+_, _-_, _*_, _≤_, _<_}
+use mathlib.Core.Bool.{Bool, true, false, cond, _||_}
+use Prim.Native.Nat.{ℕ, _-_, _≤_, _<_}
 use native.Mathlib.Nat.{le-refl}
 use native.Mathlib.Omega.{arith}
 use lib.Dec.{eqb, leb}
-use lib.ListN.{length}
-use borrow.Author.Tests.{eqb-true, eqb-false, leb-true, leb-false, le-leb, eq-eqb, ne-eqb}
-use Rattle.locks.specs.Locks.{lockPage}
+use borrow.Author.Tests.{eqb-true, eqb-false, leb-true, leb-false, le-leb}
 use Rattle.locks.proofs.Bits.{gains-self, gains-trans}
 use Rattle.image.specs.declared.Four.{Four}
 use Rattle.image.specs.declared.Region.{Region}
 use Rattle.image.specs.declared.Region.the-variants.{User, Settings, Outside}
-use Rattle.image.specs.Layout.{Fits, byte, pageAt, store, firstSettings, secondSettings, regionOf}
+use Rattle.image.specs.Layout.{Fits, pageAt, secondSettings, regionOf}
 use Rattle.image.specs.Settings.{auth0, settingsLocked}
 use Rattle.image.specs.Write.{locked, written, write, NoneCleared}
-use Rattle.image.specs.Tail.{counterIn, counter}
+use Rattle.image.specs.Tail.{counter}
 use Rattle.image.proofs.Laws.{outside, in-settings, replaced}
 use Rattle.image.proofs.Stored.{fits-store, page-same, page-other}
 use Rattle.image.proofs.Kept.{write-keeps, store-keeps}
 use Rattle.tag.specs.declared.Tag.{Tag}
 use Rattle.tag.specs.State.{authenticated}
-use Rattle.tag.specs.Outcome.{Reply, Effect, keep, put, apply}
+use Rattle.tag.specs.Outcome.{Reply, Effect, apply}
 use Rattle.commands.specs.Commands.{underPassword, refusesIn, refuses}
 use Rattle.active.specs.declared.Command.{Command}
 use Rattle.active.specs.declared.Command.the-variants.{Read, FastRead, Write, Version, Count, Auth, Hlta, Unknown}
 use Rattle.demands.specs.Run.{dataFor}
-use Rattle.demands.proofs.Tests.{split, never, or-left, or-right}
+use Rattle.demands.proofs.Tests.{split, never}
 use Rattle.demands.proofs.Change.{isAck, Change, kept, stored, tailed}
 
 -- ---- no bit has cleared, from image to image

@@ -1,7 +1,7 @@
 -- Demand 3, sentence by sentence: "From field off, any image, any run of frames and field losses (refused ones too, no bus event)".
 -- Assumes nothing.
 use mathlib.Core.Path.{_≡_}
-use mathlib.Core.List.{List, [], _++_}
+use mathlib.Core.List.{List, _++_}
 use mathlib.Core.Bool.{true}
 use Prim.Native.Nat.{ℕ, _≤_, _<_}
 use lib.ListN.{length}

@@ -1,0 +1,33 @@
+-- The proved table: each case computes. Assumes nothing.
+use mathlib.Core.Path.{refl}
+use Rattle.two_wire.proofs.Examples.{the-examples}
+use Rattle.demands.specs.Table.{ProvedTable}
+use Rattle.demands.proofs.Computes.{computes}
+
+pub proved-table : ProvedTable
+unfolding computes
+proved-table = record {
+  uid = (refl, refl);
+  readEnd = refl;
+  readPast = refl;
+  readProtected = refl;
+  readGuarded = refl;
+  readBelow = refl;
+  readRound = refl;
+  fastOne = refl;
+  fastBack = refl;
+  blockFirst = refl;
+  lockSecond = refl;
+  blocked = refl;
+  gained = refl;
+  lockBit = (refl, refl, refl);
+  counts = refl;
+  stays = refl;
+  limit = refl;
+  below = refl;
+  collision = (refl, refl);
+  other = refl;
+  wires = (the-examples .rolls45, the-examples .rolls135, the-examples .rolls231);
+  together = refl;
+  lockedPage = (refl, refl);
+}
