@@ -3,19 +3,15 @@ use mathlib.Core.List.{List}
 use mathlib.Core.Bool.{Bool, cond, _&&_}
 use Prim.Native.Nat.{ℕ, _+_, _%_}
 use lib.Dec.{eqb, leb}
-use lib.ListN.{length, getD}
+use lib.ListN.{length}
 use Rattle.crc_a.specs.CrcA.{crcRight}
 use Rattle.image.specs.declared.Four.{Four}
 use Rattle.tag.specs.declared.Tag.{Tag}
-use Rattle.tag.specs.Outcome.{Does, lost, nak}
+use Rattle.tag.specs.Outcome.{arg, Does, lost, nak}
 use Rattle.reading.specs.Reading.{read, fastRead}
 use Rattle.commands.specs.Commands.{write, version, readCount, pwdAuth, hlta}
 use Rattle.active.specs.declared.Command.{Command}
 use Rattle.active.specs.declared.Command.the-variants.{Read, FastRead, Write, Version, Count, Auth, Hlta, Unknown}
-
--- byte i of a frame
-abbrev pub arg : List ℕ → ℕ → ℕ
-arg f i = getD f i 0
 
 -- four bytes of a frame, from byte i on
 unfoldable pub args : List ℕ → ℕ → Four

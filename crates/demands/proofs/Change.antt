@@ -88,9 +88,6 @@ selected-out (Active w a) e = e
 -- ---- leaves
 
 module _ (n : ℕ) (img : List ℕ) (t : Tag) (c : Command) (Q : Type 0) where
-  abbrev Does′ : Does → Type 0
-  Does′ d = Step n img t c Q d
-
   -- the image is kept, and no ACK is heard
   stay : (r : Reply) (u : Tag) → isAck r ≡ false → (authenticated t ≡ false → authenticated u ≡ false) → Step n img t c Q (does r keep u)
   stay r u e h = record { change = kept refl (λ y a d w. never (sym y ∙ e)); auth = λ a _. h a; hush = λ _. refl }
@@ -189,15 +186,15 @@ module _ (n : ℕ) (img : List ℕ) (t : Tag) (f : List ℕ) (bits : ℕ) (parit
   halt-step = by Steps (isWupa f bits) (λ _. wakes-step) (λ _. silent-step t (λ a. a))
 
   -- a frame of selection is no WRITE
-  no-write : (code : ℕ) → commandOf f ≡ Unknown → (o : Reply) → isAck o ≡ true → (a : ℕ) (d : Four) → commandOf f ≡ Write a d → ⊥
-  no-write code e o y a d w = let z : _≡_ {A = ℕ} 0 1 = cc in omega arith
+  no-write : commandOf f ≡ Unknown → (o : Reply) → isAck o ≡ true → (a : ℕ) (d : Four) → commandOf f ≡ Write a d → ⊥
+  no-write e o y a d w = let z : _≡_ {A = ℕ} 0 1 = cc in omega arith
 
   module _ (unknown : commandOf f ≡ Unknown) (own sak : ℕ) where
     anticollision-step : Steps (anticollision t f bits own)
     unfolding anticollision
     anticollision-step =
         by Steps (eqb bits (16 + known (getD f 1 0)) && eqb (sent f) (own % 2 ^ known (getD f 1 0)))
-        (λ _. record { change = kept refl (no-write 0 unknown _); auth = λ a _. a; hush = λ e. cc }) (λ _. lost-step n img t _ _)
+        (λ _. record { change = kept refl (no-write unknown _); auth = λ a _. a; hush = λ e. cc }) (λ _. lost-step n img t _ _)
 
     select-step : Steps (select t f bits own sak)
     unfolding select authenticated moved

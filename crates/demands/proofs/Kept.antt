@@ -16,7 +16,7 @@ use Rattle.image.specs.Settings.{auth0, settingsLocked}
 use Rattle.image.specs.Write.{locked, written, write, NoneCleared}
 use Rattle.image.specs.Tail.{counter}
 use Rattle.image.proofs.Laws.{outside, in-settings, replaced}
-use Rattle.image.proofs.Stored.{fits-store, page-same, page-other}
+use Rattle.image.proofs.Stored.{page-same, page-other}
 use Rattle.image.proofs.Kept.{write-keeps, store-keeps}
 use Rattle.tag.specs.declared.Tag.{Tag}
 use Rattle.tag.specs.State.{authenticated}
@@ -76,15 +76,6 @@ user-within n p u = split (leb n p) (λ e. let o = outside n p (leb-true n p e) 
 -- ---- one change
 
 module _ (n : ℕ) (img : List ℕ) (t : Tag) (c : Command) (o : Reply) (e : Effect) (fit : Fits n img) where
-  abbrev after : List ℕ
-  after = apply img e
-
-  pub fits-after : Change n img t c o e → Fits n (apply img e)
-  unfolding apply
-  fits-after (kept q y) = rw q fit
-  fits-after (stored a d w r y q) = rw q (fits-store n img a _ fit)
-  fits-after (tailed v l y q) = rw q (fits-store n img n v fit)
-
   -- a page to which a WRITE is refused stays
   pub page-kept : Change n img t c o e → (p : ℕ) → p < n → refuses n img t p ≡ true → pageAt (apply img e) p ≡ pageAt img p
   unfolding apply

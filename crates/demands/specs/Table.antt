@@ -1,13 +1,12 @@
 -- Document 01's examples that are marked P, and two of our own, as one table of equations. "Unless said: right frames in ACTIVE, not
 -- authenticated, locks clear, AUTH0 FFh." Assumes nothing.
 use mathlib.Core.Path.{_≡_}
-use mathlib.Core.List.{List, [], _∷_, _++_}
-use mathlib.Core.Bool.{Bool, true, false}
+use mathlib.Core.List.{List, [], _∷_}
+use mathlib.Core.Bool.{true, false}
 use Prim.Native.Nat.{ℕ, _+_, _-_, _*_, _/_}
 use lib.ListN.{length, getD}
 use lib.Seq.{sets}
 use Rattle.crc_a.specs.CrcA.{withCrc}
-use Rattle.image.specs.declared.Four.{Four}
 use Rattle.image.specs.Layout.{pageAt}
 use Rattle.image.specs.Uid.{bcc0, bcc1}
 use Rattle.image.specs.Write.{locked}

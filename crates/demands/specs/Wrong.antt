@@ -1,16 +1,14 @@
 -- Two tags of which demand 3 does not hold, and the run that shows it. Assumes nothing.
 use mathlib.Core.List.{List, [], _∷_}
-use mathlib.Core.Bool.{Bool, true, false, cond, not, _&&_}
-use Prim.Native.Nat.{ℕ, _+_, _*_}
+use mathlib.Core.Bool.{true, cond}
+use Prim.Native.Nat.{ℕ, _*_}
 use lib.ListN.{length}
 use Rattle.crc_a.specs.CrcA.{withCrc}
-use Rattle.image.specs.declared.Four.{Four}
 use Rattle.image.specs.Layout.{pageAt}
 use Rattle.tag.specs.Outcome.{Effect, keep, put}
 use Rattle.commands.specs.Commands.{same}
-use Rattle.radio.specs.Call.{Called}
 use Rattle.radio.specs.Reach.{wupa, select1, select2}
-use Rattle.demands.specs.Run.{Frame, Input, sent, Call, ours, acks}
+use Rattle.demands.specs.Run.{Input, sent, Call, ours, acks}
 use Rattle.demands.specs.Table.{plain, writeFour}
 
 -- it acknowledges a WRITE, and stores nothing

@@ -19,9 +19,6 @@ module _ (k : ℕ) (may : ℕ → ℕ) (old d : ℕ) where
   pub gain-bit : (i : ℕ) → i < k → bitAt (gain k may old d) i ≡ max (bitAt old i) (min (bitAt d i) (may i))
   gain-bit i l = bitAt-ofBits k (λ i. max (bitAt old i) (min (bitAt d i) (may i))) bit≤1 i l
 
-  pub gain-lt : gain k may old d < 2 ^ k
-  gain-lt = ofBits-lt k (λ i. max (bitAt old i) (min (bitAt d i) (may i))) bit≤1
-
   pub gain-keeps : Gains k old (gain k may old d)
   gain-keeps i l = omega (arith, gain-bit i l)
 
@@ -69,10 +66,6 @@ pub static-keeps : (statics d : ℕ) → Gains 16 statics (staticGain statics d)
 unfolding staticGain
 static-keeps statics d = gain-keeps 16 (mayStatic statics) statics d
 
-pub static-lt : (statics d : ℕ) → staticGain statics d < 65536
-unfolding staticGain
-static-lt statics d = gain-lt 16 (mayStatic statics) statics d
-
 -- the lock of a page whose block bit was set before the write doesn't change
 pub static-blocked : (statics d p : ℕ) → 3 ≤ p → p < 16 → bitAt statics (staticBlock p) ≡ 1 → bitAt (staticGain statics d) p ≡ bitAt statics p
 unfolding staticGain mayStatic
@@ -85,10 +78,6 @@ static-blocked statics d p h l b =
 pub dynamic-keeps : (n blocks dynamics d : ℕ) → Gains 16 dynamics (dynamicGain n blocks dynamics d)
 unfolding dynamicGain
 dynamic-keeps n blocks dynamics d = gain-keeps 16 (mayDynamic n blocks) dynamics d
-
-pub dynamic-lt : (n blocks dynamics d : ℕ) → dynamicGain n blocks dynamics d < 65536
-unfolding dynamicGain
-dynamic-lt n blocks dynamics d = gain-lt 16 (mayDynamic n blocks) dynamics d
 
 -- a lock bit whose block bit was set before the write doesn't change
 pub dynamic-blocked : (n blocks dynamics d i : ℕ) → i < 16 → bitAt blocks (dynamicBlock i) ≡ 1 → bitAt (dynamicGain n blocks dynamics d) i ≡ bitAt dynamics i
@@ -108,10 +97,6 @@ dynamic-undefined n blocks dynamics d i l h = gain-shut 16 (mayDynamic n blocks)
 pub block-keeps : (n blocks d : ℕ) → Gains 8 blocks (blockGain n blocks d)
 unfolding blockGain
 block-keeps n blocks d = gain-keeps 8 (mayBlock n) blocks d
-
-pub block-lt : (n blocks d : ℕ) → blockGain n blocks d < 256
-unfolding blockGain
-block-lt n blocks d = gain-lt 8 (mayBlock n) blocks d
 
 pub block-undefined : (n blocks d k : ℕ) → k < 8 → lockBits n / 2 ≤ k → bitAt (blockGain n blocks d) k ≡ bitAt blocks k
 unfolding blockGain mayBlock

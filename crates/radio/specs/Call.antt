@@ -4,14 +4,14 @@ use mathlib.Core.List.{List}
 use mathlib.Core.Bool.{Bool, cond, _&&_, _||_}
 use Prim.Native.Nat.{ℕ, _+_, _*_, _/_, _%_, _^_, _≤_}
 use lib.Dec.{eqb, leb, ltb}
-use lib.ListN.{length, getD}
+use lib.ListN.{length}
 use Rattle.image.specs.declared.Size.{Size}
 use Rattle.image.specs.declared.Size.the-variants.{Pages, Unknown}
 use Rattle.image.specs.Layout.{sizeOf}
 use Rattle.tag.specs.declared.State.{State}
 use Rattle.tag.specs.declared.State.the-variants.{Idle, Halt, Ready1, Ready2, Active}
 use Rattle.tag.specs.declared.Tag.{Tag}
-use Rattle.tag.specs.Outcome.{Reply, silence, bitsOf, answerOf, over, Effect, keep, apply, Does}
+use Rattle.tag.specs.Outcome.{arg, Reply, silence, bitsOf, answerOf, over, Effect, keep, apply, Does}
 use Rattle.selection.specs.Selection.{inIdle, inHalt, inReady1, inReady2}
 use Rattle.active.specs.Frame.{inActive}
 use Rattle.radio.specs.Record.{tagOf, recordOf}
@@ -34,7 +34,7 @@ heard n img t f bits parity = heardIn (t .state) n img t f bits parity
 
 -- "or a set bit above the last": the bits of the last byte above the count are zeros
 unfoldable pub padded : List ℕ → ℕ → Bool
-padded f bits = eqb (bits % 8) 0 || ltb (getD f (bits / 8) 0) (2 ^ (bits % 8))
+padded f bits = eqb (bits % 8) 0 || ltb (arg f (bits / 8)) (2 ^ (bits % 8))
 
 -- "bit count 0 or over 512, byte count not the bits rounded up, or a set bit above the last"
 unfoldable pub isFrame : List ℕ → ℕ → Bool

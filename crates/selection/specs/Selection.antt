@@ -3,16 +3,11 @@ use mathlib.Core.List.{List, [], _∷_}
 use mathlib.Core.Bool.{Bool, cond, _&&_, _||_}
 use Prim.Native.Nat.{ℕ, _+_, _-_, _*_, _/_, _%_, _^_}
 use lib.Dec.{eqb, leb}
-use lib.ListN.{getD}
 use Rattle.crc_a.specs.CrcA.{crcRight}
 use Rattle.image.specs.Uid.{uid, cascadeTag, bcc0, bcc1}
 use Rattle.tag.specs.declared.Tag.{Tag}
 use Rattle.tag.specs.State.{moved, woken, selected}
-use Rattle.tag.specs.Outcome.{silence, bytes, plain, keep, Does, does, lost}
-
--- byte i of a frame
-abbrev pub arg : List ℕ → ℕ → ℕ
-arg f i = getD f i 0
+use Rattle.tag.specs.Outcome.{arg, silence, bytes, plain, keep, Does, does, lost}
 
 -- ---- IDLE and HALT
 

@@ -5,7 +5,7 @@ use Prim.Native.Nat.{ℕ, zero, suc, _+_, _*_, _/_, _%_, _^_, _≤_, _<_}
 use native.Mathlib.Nat.{not-suc-le-zero, le-of-suc-le-suc, pow-suc, div-div-eq-div-mul, mod-eq-of-lt}
 use native.Mathlib.Numerals.{add-one}
 use native.Mathlib.Omega.{arith}
-use lib.ListN.{length, take, drop, set, getD, length-append, length-drop}
+use lib.ListN.{length, take, drop, set, getD, length-append}
 use lib.Seq.{take-length, sets, sets-eq, set-split, take-at, drop-drop, drop-append-add, length-take-le}
 use Rattle.crc_a.specs.CrcA.{crcA, sent, withCrc}
 use Rattle.tag.specs.State.{moved, backToWait}
@@ -20,17 +20,9 @@ by-case f s s′ r e h = rw e h
 
 -- ---- laid over
 
-pub over-none : (buffer : List ℕ) → over [] buffer ≡ buffer
-unfolding over
-over-none buffer = refl
-
 pub take-over : (a b : List ℕ) (n : ℕ) → length a ≡ n → take n (over a b) ≡ a
 unfolding over
 take-over a b n e = take-at a (drop (length a) b) n e
-
-pub length-over : (a b : List ℕ) → length a ≤ length b → length (over a b) ≡ length b
-unfolding over
-length-over a b l = simp (length-append, length-drop) (omega arith)
 
 -- a longer answer that goes over a shorter one
 pub over-over : (a b c : List ℕ) → over (a ++ c) (over a b) ≡ over (a ++ c) b

@@ -2,13 +2,17 @@
 use mathlib.Core.Path.{_≡_}
 use mathlib.Core.List.{List, [], _∷_, _++_}
 use Prim.Native.Nat.{ℕ, zero, suc, _+_, _*_, _/_, _%_, _^_, _≤_}
-use lib.ListN.{length, drop}
+use lib.ListN.{length, drop, getD}
 use Rattle.crc_a.specs.CrcA.{withCrc}
 use Rattle.image.specs.declared.Four.{Four}
 use Rattle.image.specs.Layout.{Fits, store}
 use Rattle.tag.specs.declared.Tag.{Tag}
 use Rattle.tag.specs.declared.Step.{Step}
 use Rattle.tag.specs.State.{moved, backToWait}
+
+-- byte i of a frame, zero behind its end
+abbrev pub arg : List ℕ → ℕ → ℕ
+arg f i = getD f i 0
 
 -- silence; the four bits of an ACK or a NAK; bytes, with their CRC_A behind them; the low k bits of a number, without
 pub data Reply : Type 0 where
