@@ -193,16 +193,15 @@ pub fn shown_page(image: &[u8], n: usize, page: usize) -> Four
     requires { ⌜ Fits n (now image) ⌝ }
     ensures { λ r. ⌜ r ≡ shownPage n (now (image .entry)) page ⌝ }
 {
-    if page < n - 2 {
-        page_at(image, page)
-    } else {
-        Four {
+    if n - 2 <= page {
+        return Four {
             b0: 0,
             b1: 0,
             b2: 0,
             b3: 0,
-        }
+        };
     }
+    page_at(image, page)
 }
 
 fn wide(b: u8) -> u16
