@@ -1,0 +1,254 @@
+-- Laws of the corridor program: parts of buffers that are lent, and what each command leaves. Assumes nothing.
+use Prim.Native.Nat.{ℕ, _+_, _-_, _*_, _/_, _≤_, _<_}
+use mathlib.Core.Path.{_≡_, refl, sym, ap, subst, subst⁻¹, _∙_}
+use mathlib.Core.Bool.{Bool, true, false, cond}
+use mathlib.Core.List.{List, [], _∷_, _++_}
+use native.Mathlib.Omega.{arith}
+use lib.Dec.{eqb}
+use lib.ListN.{length, take, drop, length-take}
+use lib.Seq.{take-at, take-take}
+use borrow.Author.Tests.{eq-eqb, ne-eqb}
+use borrow.Rule.Slice.PartMut.{putMid}
+use Rattle.image.specs.declared.Size.{Size}
+use Rattle.image.specs.declared.Size.the-variants.{Pages, Unknown}
+use Rattle.image.specs.Layout.{sizeOf}
+use Rattle.tag.specs.Outcome.{Reply, silence, nibble, bytes, plain, bitsOf, lowBytes, answerOf, over}
+use Rattle.tag.specs.State.{fieldOff}
+use Rattle.tag.proofs.Laws.{length-build, length-with-crc}
+use Rattle.radio.specs.declared.TagRecord.{TagRecord}
+use Rattle.radio.specs.declared.Answer as radio
+use Rattle.radio.specs.Record.{recordOf, fieldLoss}
+use Rattle.radio.specs.Call.{Called, called, Met}
+use Rattle.two_wire.specs.declared.BusRecord.{BusRecord}
+use Rattle.two_wire.specs.declared.BusAnswer.{BusAnswer}
+use Rattle.two_wire.specs.declared.BusStep.{BusStep}
+use Rattle.two_wire.specs.Record.{atRest}
+use Rattle.two_wire.specs.Step.{byEvent, bySize, does, Did}
+use Rattle.lines.specs.declared.read.Command.{Command}
+use Rattle.lines.specs.declared.read.Command.the-variants.{Image, Buffer, Frame}
+use Rattle.lines.specs.declared.write.Answer.{Answer}
+use Rattle.lines.specs.declared.write.Answer.the-variants as answer
+use Rattle.lines.specs.Bounds.{CommandFits, AnswerFits}
+use Rattle.lines.specs.Laid.{Laid}
+use Rattle.lines.specs.Said.{says, saidOf, isSkipped}
+use Rattle.lines.specs.Told as told
+use Rattle.lines.specs.Told.{Told, textOf, newline, bytesIn, tells, Line}
+use Rattle.corridor.specs.Played.{Board, Played, opening, takes, lends, loses, replyTold, callTold, hears, kindTold, eventTold, sees, played, answerTo, boardAfter}
+use Rattle.corridor.specs.Held.{boardOf, Within, Acts, Answers}
+use Rattle.corridor.specs.declared.session.Session.{Session}
+use Rattle.corridor.specs.declared.session.Acted.{Acted}
+use Rattle.corridor.specs.declared.session.Responded.{Responded}
+
+-- ---- the front of a buffer, lent and given back
+
+front : (xs : List ℕ) (n : ℕ) → take (n - 0) (drop 0 xs) ≡ take n xs
+front xs n = let p : n - 0 ≡ n = omega arith in ap (λ (k : ℕ). take k xs) p
+
+back : (xs part : List ℕ) (n : ℕ) → n ≤ length xs → length part ≡ length (take (n - 0) (drop 0 xs)) → take n (putMid 0 (n - 0) xs part) ≡ part
+back xs part n h e =
+    let q : length (take n xs) ≡ n = simp length-take (omega arith) in
+    take-at part (drop (n - 0) xs) n (e ∙ ap length (front xs n) ∙ q)
+
+module _ (img part : List ℕ) (n : ℕ) where
+  pub step-front : (bus : BusRecord) (number byte : ℕ) (r : BusStep) → n ≤ length img → length part ≡ length (take (n - 0) (drop 0 img))
+      → Did (does (take (n - 0) (drop 0 img)) bus number byte) r (take (n - 0) (drop 0 img)) part
+      → Did (does (take n img) bus number byte) r (take n img) (take n (putMid 0 (n - 0) img part))
+  step-front bus number byte r h e d =
+      subst⁻¹ (λ (ys : List ℕ). Did (does (take n img) bus number byte) r (take n img) ys) (back img part n h e)
+      (subst (λ (xs : List ℕ). Did (does xs bus number byte) r xs part) (front img n) d)
+
+  pub frame-front : (buf part′ sent : List ℕ) (lent count bits : ℕ) (tag : TagRecord) (good : Bool) (r : radio.Answer)
+      → (n ≤ length img) × (lent ≤ length buf) × (count ≤ length sent)
+      → length part ≡ length (take (n - 0) (drop 0 img))
+      → length part′ ≡ length (take (lent - 0) (drop 0 buf))
+      → Met (called (take (n - 0) (drop 0 img)) (length (take (lent - 0) (drop 0 buf))) tag (take (count - 0) (drop 0 sent)) bits good) r (take (n - 0) (drop 0 img)) part (take (lent - 0) (drop 0 buf)) part′
+      → Met (called (take n img) lent tag (take count sent) bits good) r (take n img) (take n (putMid 0 (n - 0) img part)) (take lent buf) (take lent (putMid 0 (lent - 0) buf part′))
+  frame-front buf part′ sent lent count bits tag good r (h, h′, k) e e′ d =
+      let room : length (take lent buf) ≡ lent = simp length-take (omega arith) in
+      let a = subst (λ (xs : List ℕ). Met (called xs (length (take (lent - 0) (drop 0 buf))) tag (take (count - 0) (drop 0 sent)) bits good) r xs part (take (lent - 0) (drop 0 buf)) part′) (front img n) d in
+      let b = subst (λ (xs : List ℕ). Met (called (take n img) (length xs) tag (take (count - 0) (drop 0 sent)) bits good) r (take n img) part xs part′) (front buf lent) a in
+      let f = subst (λ (xs : List ℕ). Met (called (take n img) (length (take lent buf)) tag xs bits good) r (take n img) part (take lent buf) part′) (front sent count) b in
+      let g = subst (λ (l : ℕ). Met (called (take n img) l tag (take count sent) bits good) r (take n img) part (take lent buf) part′) room f in
+      subst⁻¹ (λ (ys : List ℕ). Met (called (take n img) lent tag (take count sent) bits good) r (take n img) ys (take lent buf) (take lent (putMid 0 (lent - 0) buf part′))) (back img part n h e)
+      (subst⁻¹ (λ (ys : List ℕ). Met (called (take n img) lent tag (take count sent) bits good) r (take n img) part (take lent buf) ys) (back buf part′ lent h′ e′) g)
+
+-- ---- the commands without a call
+
+pub opened : (tag : TagRecord) (bus : BusRecord) → tag ≡ recordOf fieldOff → bus ≡ atRest → (img : List ℕ)
+    → boardOf (record { size = 0; lent = 1024; tag = tag; bus = bus }) img ≡ opening
+opened tag bus e f img = rw (e, f)
+
+pub took : (session : Session) (tag : TagRecord) (bus : BusRecord) (sent img img′ : List ℕ) (n size : ℕ) → tag ≡ recordOf fieldOff → bus ≡ atRest
+    → size ≡ 0 + n → n ≤ 1024 → length sent ≡ 8192 → Laid (take n sent) 0 size img img′ → Within session → (buf : List ℕ)
+    → Acts (takes (boardOf session img) (take n sent)) (record { session = record { size = size; lent = session .lent; tag = tag; bus = bus }; told = answer.Taken size }) img′ buf
+unfolding takes
+took session tag bus sent img img′ n size e f s h l d w buf =
+    let q : length (take n sent) ≡ n = simp length-take (omega arith) in
+    let p : size ≡ length (take n sent) = omega arith in
+    record {
+      within = record { size = omega arith; lent = w .lent };
+      fits = omega arith;
+      board = rw (e, f, d .front);
+      told = ap told.taken p;
+    }
+
+pub lent-out : (session : Session) (n : ℕ) → n ≤ 1024 → Within session → (img buf : List ℕ)
+    → Acts (lends (boardOf session img) n) (record { session = record { size = session .size; lent = n; tag = session .tag; bus = session .bus }; told = answer.Lent n }) img buf
+unfolding lends
+lent-out session n h w img buf = record { within = record { size = w .size; lent = h }; fits = h; board = refl; told = refl }
+
+pub field-lost : (session : Session) (tag : TagRecord) → tag ≡ fieldLoss (session .tag) → Within session → (img buf : List ℕ)
+    → Acts (loses (boardOf session img)) (record { session = record { size = session .size; lent = session .lent; tag = tag; bus = session .bus }; told = answer.Lost }) img buf
+unfolding loses
+field-lost session tag e w img buf = record { within = record { size = w .size; lent = w .lent }; fits = tt; board = rw e; told = refl }
+
+-- ---- frames
+
+-- an answer takes as many bytes as its bits, rounded up
+answer-bytes : (o : Reply) → length (answerOf o) ≡ bytesIn (bitsOf o)
+unfolding bitsOf answerOf lowBytes
+answer-bytes silence = refl
+answer-bytes (nibble v) = refl
+answer-bytes (bytes bs) = omega (arith, length-with-crc bs)
+answer-bytes (plain k v) = length-build _ _
+
+module _ (refused bits : ℕ) (c : Called) (buf : List ℕ) (e : refused ≡ c .refused) (f : bits ≡ bitsOf (c .reply)) where
+  pub told-refused : (refused ≡ 0 → ⊥) → told.refused refused ≡ callTold c
+  unfolding callTold
+  told-refused h = rw (← e, ne-eqb refused 0 h)
+
+  pub told-silence : refused ≡ 0 → bits ≡ 0 → told.silence ≡ callTold c
+  unfolding callTold replyTold
+  told-silence h k = rw (← e, ← f, eq-eqb refused 0 h, eq-eqb bits 0 k)
+
+  pub told-bits : refused ≡ 0 → (bits ≡ 0 → ⊥) → take (bytesIn bits) buf ≡ answerOf (c .reply) → told.bits bits (take (bytesIn bits) buf) ≡ callTold c
+  unfolding callTold replyTold
+  told-bits h k g = rw (← e, ← f, eq-eqb refused 0 h, ne-eqb bits 0 k, g)
+
+-- the bytes of an answer stand at the start of the whole buffer too
+answer-front : (o : Reply) (bits lent : ℕ) (buf buf′ : List ℕ) → bits ≡ bitsOf o → bits ≤ 8 * length (take lent buf)
+    → take lent buf′ ≡ over (answerOf o) (take lent buf)
+    → take (bytesIn bits) buf′ ≡ answerOf o
+unfolding over
+answer-front o bits lent buf buf′ e h a =
+    let m = length (answerOf o) in
+    let p : bytesIn bits ≡ m = ap bytesIn e ∙ sym (answer-bytes o) in
+    let few : m ≤ lent = omega (arith, length-take lent buf, p) in
+    ap (λ (k : ℕ). take k buf′) p ∙ sym (take-take m lent buf′ few) ∙ ap (take m) a ∙ take-at (answerOf o) (drop m (take lent buf)) m refl
+
+module _ (session : Session) (img img′ buf buf′ sent : List ℕ) (bits count : ℕ) (good : Bool) (heard : radio.Answer) where
+  abbrev HeardAs : Type 0
+  HeardAs = Met (called (take (session .size) img) (session .lent) (session .tag) (take count sent) bits good) heard (take (session .size) img) (take (session .size) img′) (take (session .lent) buf) (take (session .lent) buf′)
+
+  pub bits-within : Within session → HeardAs → heard .bits ≤ 8192
+  bits-within w d = omega (arith, d .fits, length-take (session .lent) buf, w .lent)
+
+  pub hear-done : (told : Answer) → Within session → HeardAs → AnswerFits told
+      → ((c : Called) (b i : List ℕ) → heard .refused ≡ c .refused → heard .bits ≡ bitsOf (c .reply) → take (bytesIn (heard .bits)) b ≡ answerOf (c .reply) → tells told b i ≡ callTold c)
+      → Acts (hears (boardOf session img) bits (take count sent) good) (record { session = record { size = session .size; lent = session .lent; tag = heard .left; bus = session .bus }; told = told }) img′ buf′
+  unfolding hears
+  hear-done told w d f t =
+      let c = called (take (session .size) img) (session .lent) (session .tag) (take count sent) bits good in
+      record {
+        within = record { size = w .size; lent = w .lent };
+        fits = f;
+        board = rw (d .image, d .left);
+        told = t c buf′ img′ (d .refused) (d .bits) (answer-front (c .reply) (heard .bits) (session .lent) buf buf′ (d .bits) (d .fits) (d .answer));
+      }
+
+-- ---- events
+
+-- a number above 4 is refused whatever it is
+module _ (number : ℕ) (large : 255 ≤ number) (img : List ℕ) (bus : BusRecord) (byte : ℕ) where
+  by-number : (s : Size) → bySize s img bus 255 byte ≡ bySize s img bus number byte
+  unfolding bySize byEvent
+  by-number (Pages n) =
+      simp (ne-eqb number 0 (omega arith), ne-eqb number 1 (omega arith), ne-eqb number 2 (omega arith), ne-eqb number 3 (omega arith), ne-eqb number 4 (omega arith))
+  by-number Unknown = refl
+
+  pub large-number : does img bus 255 byte ≡ does img bus number byte
+  unfolding does
+  large-number = by-number (sizeOf (length img))
+
+module _ (a : BusAnswer) where
+  pub event-refused : (a .refused ≡ 0 → ⊥) → told.refused (a .refused) ≡ eventTold a
+  unfolding eventTold
+  event-refused h = rw (ne-eqb (a .refused) 0 h)
+
+  module _ (h : a .refused ≡ 0) where
+    taken : (t : Told) → t ≡ kindTold (a .kind) (a .value) → t ≡ eventTold a
+    unfolding eventTold
+    taken t e = e ∙ ap (λ (b : Bool). cond b (kindTold (a .kind) (a .value)) (told.refused (a .refused))) (sym (eq-eqb (a .refused) 0 h))
+
+    pub event-done : a .kind ≡ 0 → told.done ≡ eventTold a
+    unfolding kindTold
+    event-done k = taken told.done (simp (eq-eqb (a .kind) 0 k))
+
+    pub event-byte : (a .kind ≡ 0 → ⊥) → (a .kind ≡ 1 → ⊥) → told.byte (a .value) ≡ eventTold a
+    unfolding kindTold
+    event-byte k l = taken (told.byte (a .value)) (simp (ne-eqb (a .kind) 0 k, ne-eqb (a .kind) 1 l))
+
+    pub event-declined : (a .kind ≡ 0 → ⊥) → a .kind ≡ 1 → a .value ≡ 0 → told.declined ≡ eventTold a
+    unfolding kindTold
+    event-declined k l v = taken told.declined (simp (ne-eqb (a .kind) 0 k, eq-eqb (a .kind) 1 l, eq-eqb (a .value) 0 v))
+
+    pub event-acknowledged : (a .kind ≡ 0 → ⊥) → a .kind ≡ 1 → (a .value ≡ 0 → ⊥) → told.acknowledged ≡ eventTold a
+    unfolding kindTold
+    event-acknowledged k l v = taken told.acknowledged (simp (ne-eqb (a .kind) 0 k, eq-eqb (a .kind) 1 l, ne-eqb (a .value) 0 v))
+
+pub see-done : (session : Session) (img img′ : List ℕ) (number small byte : ℕ) (step : BusStep) (told : Answer) → Within session
+    → Did (does (take (session .size) img) (session .bus) small byte) step (take (session .size) img) (take (session .size) img′)
+    → ((i : List ℕ) (bus : BusRecord) (b : ℕ) → does i bus small b ≡ does i bus number b)
+    → AnswerFits told
+    → ((b i : List ℕ) → tells told b i ≡ eventTold (step .answer))
+    → (buf : List ℕ)
+    → Acts (sees (boardOf session img) number byte) (record { session = record { size = session .size; lent = session .lent; tag = session .tag; bus = step .bus }; told = told }) img′ buf
+unfolding sees
+see-done session img img′ number small byte step told w d e f t buf =
+    let s = e (take (session .size) img) (session .bus) byte in
+    let d′ = subst (λ o. Did o step (take (session .size) img) (take (session .size) img′)) s d in
+    record {
+      within = record { size = w .size; lent = w .lent };
+      fits = f;
+      board = rw (d′ .image, ap (λ (x : BusStep). x .bus) (d′ .step));
+      told = t buf img′ ∙ ap (λ (x : BusStep). eventTold (x .answer)) (d′ .step);
+    }
+
+-- ---- lines
+
+module _ {command : Command} (w : CommandFits command) where
+  pub image-fits : {n : ℕ} → command ≡ Image n → n ≤ 1024
+  image-fits e = subst CommandFits e w
+
+  pub buffer-fits : {n : ℕ} → command ≡ Buffer n → n ≤ 1024
+  buffer-fits e = subst CommandFits e w
+
+  pub frame-fits : {bits n : ℕ} {good : Bool} → command ≡ Frame bits n good → n ≤ 8192
+  frame-fits e = subst CommandFits e w
+
+-- a command that is known to be one of the commands
+pub acted-by : (b : Board) (sent img buf : List ℕ) (command k : Command) (r : Acted) → command ≡ k → Acts (played b (says k sent)) r img buf
+    → Acts (played b (says command sent)) r img buf
+acted-by b sent img buf command k r e a = rw e a
+
+pub responded-nothing : (session : Session) (img line out : List ℕ) (b : Bool) → Within session → b ≡ isSkipped line → b ≡ true
+    → Answers (boardOf session img) line (record { session = session; length = 0 }) img out
+unfolding answerTo boardAfter
+responded-nothing session img line out b w e t =
+    record { within = record { size = w .size; lent = w .lent }; room = omega arith; board = rw (← e, t); text = rw (← e, t) }
+
+pub responded : (session : Session) (command : Command) (acted : Acted) (img img′ buf sent line out : List ℕ) (r : ℕ) (b : Bool)
+    → b ≡ isSkipped line → b ≡ false
+    → says command sent ≡ saidOf line
+    → Acts (played (boardOf session img) (says command sent)) acted img′ buf
+    → r ≤ 2080
+    → Line (textOf (tells (acted .told) buf img′)) r out
+    → Answers (boardOf session img) line (record { session = acted .session; length = r }) img′ out
+unfolding answerTo boardAfter
+responded session command acted img img′ buf sent line out r b e f s a room l =
+    record {
+      within = a .within;
+      room = room;
+      board = rw (← e, f, ← s) (a .board);
+      text = rw (← e, f, ← s) (l .whole ∙ ap (λ (t : Told). textOf t ++ newline) (a .told));
+    }

@@ -1,0 +1,26 @@
+use borrow.Author.Needs.{needs}
+use Rattle.corridor.specs.Held.{Within, Reads}
+use Rattle.corridor.proofs.play.Statement.{statement}
+use Rattle.corridor.proofs.play.Tie as tie
+
+abbrev Inv-loop : tie.InvT-loop
+Inv-loop image₀ answer₀ bytes₀ out₀ line₀ chunk₀ input₀ session₀ turns₀ image answer bytes out line chunk input session turns = Reads input × Within session
+
+abbrev μ-loop : tie.MeasureT-loop
+μ-loop image₀ answer₀ bytes₀ out₀ line₀ chunk₀ input₀ session₀ turns₀ image answer bytes out line chunk input session turns = turns
+
+pub play-spec : {M : Type 1} → statement M
+play-spec =
+    tie.close
+    (tie.spec
+    Inv-loop
+    μ-loop
+    (λ c κs. search needs)
+    (λ c κs. search needs)
+    (λ c. search needs)
+    (λ c. search needs)
+    (λ c κs. search needs)
+    (λ c. search needs)
+    (λ c. search needs)
+    (λ c. search needs)
+    (λ c. search needs))

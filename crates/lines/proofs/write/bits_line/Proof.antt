@@ -1,0 +1,19 @@
+use borrow.Author.Needs.{needs}
+use Rattle.lines.proofs.Laying.{bits-line}
+use Rattle.lines.proofs.write.bits_line.Statement.{statement}
+use Rattle.lines.proofs.write.bits_line.Tie as tie
+
+pub bits-line-spec : {M : Type 1} → statement M
+bits-line-spec =
+    tie.close
+    (tie.spec
+    (λ c. search needs)
+    (λ c κs. search needs)
+    (λ c κs. search needs)
+    (λ c. search needs)
+    (λ c κs. search needs)
+    (λ c. search needs)
+    (λ c κs. search needs)
+    (λ c. search needs)
+    (λ c κs. search needs)
+    (λ c. (search needs, search bits-line)))

@@ -1,0 +1,16 @@
+use borrow.Author.Needs.{needs}
+use Rattle.lines.proofs.Laying.{byte-line}
+use Rattle.lines.proofs.write.byte_line.Statement.{statement}
+use Rattle.lines.proofs.write.byte_line.Tie as tie
+
+pub byte-line-spec : {M : Type 1} → statement M
+byte-line-spec =
+    tie.close
+    (tie.spec
+    (λ c. search needs)
+    (λ c κs. search needs)
+    (λ c. search needs)
+    (λ c κs. search needs)
+    (λ c. search needs)
+    (λ c κs. search needs)
+    (λ c. (search needs, search byte-line)))

@@ -1,0 +1,13 @@
+use borrow.Author.Needs.{needs}
+use Rattle.lines.proofs.Laying.{char-low, char-high}
+use Rattle.lines.proofs.write.hex_char.Statement.{statement}
+use Rattle.lines.proofs.write.hex_char.Tie as tie
+
+pub hex-char-spec : {M : Type 1} → statement M
+hex-char-spec =
+    tie.close
+    (tie.spec
+    (λ c. search needs)
+    (λ c. search needs)
+    (λ c. search char-low)
+    (λ c. search char-high))

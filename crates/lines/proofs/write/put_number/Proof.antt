@@ -1,0 +1,13 @@
+use borrow.Author.Needs.{needs}
+use Rattle.lines.proofs.Laying.{number-laid}
+use Rattle.lines.proofs.write.put_number.Statement.{statement}
+use Rattle.lines.proofs.write.put_number.Tie as tie
+
+pub put-number-spec : {M : Type 1} → statement M
+put-number-spec =
+    tie.close
+    (tie.spec
+    (λ c κs. search needs)
+    (λ c κs. search needs)
+    (λ c. search needs)
+    (λ c. (search needs, search number-laid)))

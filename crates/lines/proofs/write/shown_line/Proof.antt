@@ -1,0 +1,18 @@
+use borrow.Author.Needs.{needs}
+use Rattle.lines.proofs.Laying.{shown-line, nothing-shown}
+use Rattle.lines.proofs.write.shown_line.Statement.{statement}
+use Rattle.lines.proofs.write.shown_line.Tie as tie
+
+pub shown-line-spec : {M : Type 1} → statement M
+shown-line-spec =
+    tie.close
+    (tie.spec
+    (λ c. search needs)
+    (λ c κs. search needs)
+    (λ c. (search needs, search nothing-shown))
+    (λ c. search needs)
+    (λ c κs. search needs)
+    (λ c κs. search needs)
+    (λ c. search needs)
+    (λ c κs. search needs)
+    (λ c. (search needs, search shown-line)))
