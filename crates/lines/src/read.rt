@@ -165,7 +165,7 @@ fn number_of(word: &[u8]) -> Number
     Number::Of(n)
 }
 
-// The value of a decimal digit; 10 for any other byte.
+// The value of a decimal digit; 10 for any other byte. `0` is 48.
 fn decimal_digit(b: u8) -> usize
     ensures { λ r. ⌜ r ≡ decimalDigit b ⌝ }
 {
@@ -178,7 +178,7 @@ fn decimal_digit(b: u8) -> usize
     10
 }
 
-// The value of a hex digit of either case; 16 for any other byte.
+// The value of a hex digit of either case; 16 for any other byte. `0` is 48, `A` 65 and `a` 97.
 fn hex_digit(b: u8) -> usize
     ensures { λ r. ⌜ (r ≤ 16) × (r ≡ hexDigit b) ⌝ }
 {
@@ -319,8 +319,8 @@ fn alone(verb: Verb) -> Command
     }
 }
 
-// A command whose first word is followed by a space and `rest`, which is never looked at for further words: a
-// space in it is no digit.
+// A command whose first word is followed by a space and `rest`, which is cut no further than the command needs: a space too many is then no
+// digit.
 fn with_rest(verb: Verb, rest: &[u8], bytes: &mut Sent) -> Command
     ensures { λ r. ⌜ CommandFits r ⌝ }
     ensures { λ r. ⌜ says r (now (bytes .exit)) ≡ withOf verb (now (rest .entry)) ⌝ }

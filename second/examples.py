@@ -1,0 +1,256 @@
+"""The examples of document 01, as lines, with the answers it gives.
+
+Every example is preceded by a comment line that names it. The answers written
+out here come from the document's words; they are held against the second tag
+whenever the examples are made, and a difference stops the making.
+"""
+
+from images import access_byte, build_image
+from lines import Player
+from tag import bits_of, bytes_of, crc_a, with_crc
+
+NAK0 = "answer 4 00"
+NAK1 = "answer 4 01"
+ACK = "answer 4 0A"
+
+# Pages 0, 1 and 2 of every image here.
+UID_PAGES = "1DA23007 110967EC 93480000"
+
+
+class Examples:
+    """Collects the lines, and holds each answer against the one that is due."""
+
+    def __init__(self):
+        self.player = Player()
+        self.lines = []
+
+    def named(self, name):
+        self.lines.append(f"# {name}".encode("ascii"))
+
+    def line(self, line, due):
+        self.lines.append(line.encode("ascii"))
+        given = self.player.answer(line.encode("ascii")).decode("ascii")
+        if given != due:
+            raise AssertionError(f"{line}: due {due}, given {given}")
+
+    def image(self, image):
+        self.line("image " + as_hex(image), f"image {len(image)}")
+
+    def shows(self, image):
+        self.line("show", "image " + as_hex(image))
+
+    def frame(self, data, due):
+        """A frame of the bytes written in hex, and their CRC."""
+        bits = with_crc(bytes.fromhex(data))
+        self.line(f"frame {len(bits)} {as_hex(bytes_of(bits))}", due)
+
+    def wake(self):
+        self.line("frame 7 52", "answer 16 4400")
+
+    def select_1(self):
+        self.frame("9370 88 1DA230 07", data_with_crc("04"))
+
+    def select_2(self):
+        self.frame("9570 110967EC 93", data_with_crc("00"))
+
+    def to_active(self):
+        """"WUPA and the two right SELECT frames reach ACTIVE in three frames"."""
+        self.wake()
+        self.select_1()
+        self.select_2()
+
+    def active_on(self, image):
+        self.image(image)
+        self.to_active()
+
+    def address(self, high, low, low_answer="ack"):
+        self.line("start", "done")
+        self.line("send A0", "ack")
+        self.line(f"send {high}", "ack")
+        self.line(f"send {low}", low_answer)
+
+
+def as_hex(data):
+    return bytes(data).hex().upper()
+
+
+def data_with_crc(data):
+    """The answer that gives these bytes, written in hex, and their CRC."""
+    bits = with_crc(bytes.fromhex(data))
+    return f"answer {len(bits)} {as_hex(bytes_of(bits))}"
+
+
+def changed(image, places):
+    """The image with some bytes changed."""
+    return [places.get(place, byte) for place, byte in enumerate(image)]
+
+
+def check_bytes(e):
+    e.named("UID 1D A2 30 11 09 67 EC has BCC0 07h, BCC1 93h")
+    e.image(build_image(45))
+    e.wake()
+    e.line("frame 16 9320", "answer 40 881DA23007")
+    e.select_1()
+    e.line("frame 16 9520", "answer 40 110967EC93")
+    e.select_2()
+
+
+def read_rolls_at_size(e):
+    e.named("N=231, READ E4h: pages E4h, E5h, E6h, 00h; E7h: NAK 0h")
+    e.active_on(build_image(231, pwd=[1, 2, 3, 4], pack=[5, 6, 0, 0]))
+    e.frame("30E4", data_with_crc("00050000 00000000 00000000 1DA23007"))
+    e.frame("30E7", NAK0)
+
+
+def read_rolls_at_auth0(e):
+    e.named("AUTH0 60h, PROT 1, N=135: READ 5Fh gives 5Fh, 00h, 01h, 02h; 60h NAK 0h; 59h gives 59h-5Ch")
+    e.active_on(build_image(135, auth0=0x60, access=access_byte(prot=1)))
+    e.frame("305F", data_with_crc("5F5F5F5F" + UID_PAGES))
+    e.frame("3059", data_with_crc("59595959 5A5A5A5A 5B5B5B5B 5C5C5C5C"))
+    e.frame("3060", NAK0)
+
+
+def read_one_page(e):
+    e.named("AUTH0 01h, PROT 1: READ 00h gives page 0 four times")
+    for size in (45, 135, 231):
+        e.active_on(build_image(size, auth0=0x01, access=access_byte(prot=1)))
+        e.frame("3000", data_with_crc("1DA23007 1DA23007 1DA23007 1DA23007"))
+
+
+def fast_read_one_page(e):
+    e.named("FAST_READ 04h 04h: four bytes; 05h 04h: NAK 0h")
+    e.active_on(build_image(45))
+    e.frame("3A0404", data_with_crc("04040404"))
+    e.frame("3A0504", NAK0)
+
+
+def block_bit_holds(e):
+    e.named("clear locks; WRITE 02h FF FF 01 00, then 00 00 08 00: both ACK, byte 10 is 01h")
+    image = build_image(45)
+    e.active_on(image)
+    e.frame("A202 FFFF0100", ACK)
+    e.frame("A202 00000800", ACK)
+    e.shows(changed(image, {10: 0x01}))
+
+
+def page_3_gains(e):
+    e.named("page 3 E1 10 12 00 with 00 01 00 00 becomes E1 11 12 00")
+    image = build_image(45)
+    e.active_on(image)
+    e.frame("A203 00010000", ACK)
+    e.frame("3A0303", data_with_crc("E1111200"))
+    e.shows(changed(image, {12: 0xE1, 13: 0x11, 14: 0x12, 15: 0x00}))
+
+
+def lock_bit_0(e):
+    e.named("N=45, lock bit 0 locks 10h and 11h, not 12h")
+    image = build_image(45, lock_page=[0x01, 0, 0, 0])
+    e.active_on(image)
+    e.frame("A210 01020304", NAK0)
+    e.to_active()
+    e.frame("A211 01020304", NAK0)
+    e.to_active()
+    e.frame("A212 01020304", ACK)
+    e.shows(changed(image, {0x48: 1, 0x49: 2, 0x4A: 3, 0x4B: 4}))
+
+
+def counter_at_its_end(e):
+    e.named("counter on: FFFFFEh counts to FFFFFFh, and stays in the next field")
+    e.active_on(build_image(45, access=access_byte(counter_on=1), counter=0xFFFFFE))
+    e.frame("3004", data_with_crc("04040404 05050505 06060606 07070707"))
+    e.frame("3902", data_with_crc("FFFFFF"))
+    e.line("field", "field")
+    e.to_active()
+    e.frame("3004", data_with_crc("04040404 05050505 06060606 07070707"))
+    e.frame("3902", data_with_crc("FFFFFF"))
+
+
+def password_limit(e):
+    e.named("AUTHLIM 2: after two wrong passwords the right one gets NAK 0h")
+    image = build_image(45, access=access_byte(authlim=2), pwd=[1, 2, 3, 4])
+    e.active_on(image)
+    e.frame("1B 01020305", NAK0)
+    e.to_active()
+    e.frame("1B 00020304", NAK0)
+    e.to_active()
+    e.frame("1B 01020304", NAK0)
+    e.shows(changed(image, {183: 2}))
+
+
+def anticollision_of_four_bits(e):
+    e.named("READY1, 93h 24h and bits 8h: 36 bits answered; bits 9h: silence")
+    e.image(build_image(45))
+    e.wake()
+    # The forty bits 88 1D A2 30 07 without their first four.
+    e.line("frame 20 932408", "answer 36 D8210A7300")
+    e.line("frame 20 932409", "silence")
+    e.line("frame 16 9320", "silence")      # the silence led to the wait state
+
+
+def bus_rolls_over(e):
+    e.named("four bytes sent to 407Eh land at 407Eh, 407Fh, 4040h, 4041h")
+    image = build_image(45)
+    e.image(image)
+    e.address("40", "7E")
+    for byte in ("C1", "C2", "C3", "C4"):
+        e.line(f"send {byte}", "ack")
+    e.line("stop", "done")
+    e.shows(changed(image, {0x7E: 0xC1, 0x7F: 0xC2, 0x40: 0xC3, 0x41: 0xC4}))
+
+
+def window_end(e):
+    e.named("N=45: 40B3h acknowledged, 40B4h not")
+    e.image(build_image(45))
+    e.address("40", "B3")
+    e.address("40", "B4", "nak")
+    e.line("stop", "done")
+
+
+def start_drops(e):
+    e.named("Start, A0h, address, data, start, stop: nothing stored")
+    image = build_image(45)
+    e.image(image)
+    e.address("40", "20")
+    e.line("send 55", "ack")
+    e.line("start", "done")
+    e.line("stop", "done")
+    e.shows(image)
+
+
+def three_frames(e):
+    e.named("After a field loss, WUPA and the two right SELECT frames reach ACTIVE in three frames")
+    for size in (45, 135, 231):
+        e.active_on(build_image(size))
+        e.frame("5000", "silence")
+        e.line("field", "field")
+        e.to_active()
+        e.frame("60", data_with_crc({45: "001D040101000F03", 135: "001D040101001103",
+                                     231: "001D040101001303"}[size]))
+
+
+def crc_examples(e):
+    """ISO/IEC 14443-3: 00 00 has the CRC_A A0 1E, 12 34 has 26 CF."""
+    for data, crc, crc_off_by_a_bit in [("0000", "A01E", "A11E"), ("1234", "26CF", "264F")]:
+        if as_hex(bytes_of(crc_a(bits_of(bytes.fromhex(data))))) != crc:
+            raise AssertionError(f"CRC_A of {data} isn't {crc}")
+        e.named(f"ISO/IEC 14443-3: CRC_A of {data} is {crc}: unknown code, NAK 0h; a bit off, NAK 1h")
+        e.active_on(build_image(45))
+        e.line(f"frame 32 {data}{crc}", NAK0)
+        e.to_active()
+        e.line(f"frame 32 {data}{crc_off_by_a_bit}", NAK1)
+
+
+EXAMPLES = [
+    check_bytes, read_rolls_at_size, read_rolls_at_auth0, read_one_page, fast_read_one_page,
+    block_bit_holds, page_3_gains, lock_bit_0, counter_at_its_end, password_limit,
+    anticollision_of_four_bits, bus_rolls_over, window_end, start_drops, three_frames,
+    crc_examples,
+]
+
+
+def example_lines():
+    """All examples, one after the other, each on an image of its own."""
+    examples = Examples()
+    for example in EXAMPLES:
+        example(examples)
+    return examples.lines

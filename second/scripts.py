@@ -1,0 +1,268 @@
+"""Scripts: lists of lines, written while playing along on the second tag.
+
+Because the tag is at hand, a script knows the state, the password and the
+locks, and can steer: to ACTIVE, into HALT, into any phase of the two wires.
+A seed gives the same script under every version of Python, for the dice are
+our own.
+"""
+
+from images import build_image
+from lines import Player
+from tag import REQA, WUPA, bits_of, bytes_of, with_crc
+
+
+class Dice:
+    """Random numbers: SplitMix64."""
+
+    MASK = 2 ** 64 - 1
+
+    def __init__(self, seed):
+        self.state = seed & self.MASK
+
+    def throw(self):
+        self.state = (self.state + 0x9E3779B97F4A7C15) & self.MASK
+        z = self.state
+        z = ((z ^ z >> 30) * 0xBF58476D1CE4E5B9) & self.MASK
+        z = ((z ^ z >> 27) * 0x94D049BB133111EB) & self.MASK
+        return z ^ z >> 31
+
+    def below(self, limit):
+        return self.throw() % limit
+
+    def between(self, least, most):
+        return least + self.below(most - least + 1)
+
+    def one_in(self, number):
+        return self.below(number) == 0
+
+    def one_of(self, choices):
+        return choices[self.below(len(choices))]
+
+    def shuffled(self, choices):
+        left = list(choices)
+        return [left.pop(self.below(len(left))) for _ in range(len(left))]
+
+    def some(self, amount, choices):
+        return self.shuffled(choices)[:amount]
+
+    def byte(self):
+        return self.below(256)
+
+    def bytes(self, amount):
+        return [self.byte() for _ in range(amount)]
+
+    def four(self):
+        return list(self.below(2 ** 32).to_bytes(4, "little"))
+
+    def sparse_byte(self):
+        """A byte with few bits set."""
+        return self.byte() & self.byte()
+
+    def size(self):
+        """N; the small tag more often, for its images are short."""
+        return self.one_of([45, 45, 45, 45, 135, 231])
+
+    def even_size(self):
+        """N, each as often."""
+        return self.one_of([45, 135, 231])
+
+
+class Script:
+    """Lines, and the second tag that has played them."""
+
+    def __init__(self, seed):
+        self.dice = Dice(seed)
+        self.player = Player()
+        self.lines = []
+        self.answered = 0       # how many of the lines got an answer
+
+    def say(self, line):
+        line = line if isinstance(line, bytes) else line.encode("ascii")
+        self.lines.append(line)
+        if self.player.answer(line) is not None:
+            self.answered += 1
+
+    def text(self):
+        """The script as it is sent; its last line has no newline."""
+        return b"\n".join(self.lines)
+
+    # ---- What the tag is like now
+
+    @property
+    def tag_image(self):
+        return self.player.tag.image
+
+    @property
+    def layout(self):
+        return self.player.tag.image.layout
+
+    @property
+    def radio(self):
+        return self.player.tag.radio
+
+    @property
+    def bus(self):
+        return self.player.tag.bus
+
+    def password(self):
+        return self.tag_image.pages[self.layout.pwd]
+
+    # ---- Images
+
+    def raw_image(self, data):
+        """Takes leave of the old image with a `show`, then takes the new one."""
+        self.say("show")
+        digits = bytes(data).hex()
+        digits = digits if self.dice.one_in(12) else digits.upper()
+        self.say(f"image {digits}" if digits else "image")
+
+    def usual_buffer(self):
+        if self.player.buffer_length != 1024:
+            self.say("buffer 1024")
+
+    def image(self, size, **wishes):
+        """An image of random contents, with what is wished for; frames are taken."""
+        dice = self.dice
+        self.usual_buffer()
+        wishes.setdefault("pwd", dice.four())
+        wishes.setdefault("pack", dice.four())
+        wishes.setdefault("bcc0", dice.one_of([None, dice.byte()]))
+        self.raw_image(build_image(size, uid=dice.bytes(7), user=lambda page: dice.four(), **wishes))
+
+    # ---- Radio
+
+    def frame(self, bits, parity_good=True):
+        """A frame, now and then written in another hand."""
+        dice = self.dice
+        count, digits = str(len(bits)), bytes_of(bits).hex().upper()
+        hand = dice.below(40)
+        if hand == 0:
+            digits = digits.lower()
+        elif hand == 1:
+            digits = "".join(dice.one_of([digit, digit.lower()]) for digit in digits)
+        elif hand == 2:
+            count = count.zfill(dice.between(1, 5))
+        self.say(f"{'frame' if parity_good else 'parity'} {count} {digits}")
+
+    def command(self, *data):
+        """A frame of these bytes and their CRC."""
+        self.frame(with_crc(data))
+
+    def level(self):
+        """The code and the five bytes of READY1 or READY2."""
+        if self.radio.state == "READY1":
+            return 0x93, self.tag_image.first_five()
+        return 0x95, self.tag_image.second_five()
+
+    def anticollision_bits(self, known):
+        """The frame that tells the first `known` of the forty bits."""
+        code, five = self.level()
+        second = 16 * (2 + known // 8) + known % 8
+        return bits_of([code, second]) + bits_of(five)[:known]
+
+    def select_bits(self):
+        code, five = self.level()
+        return with_crc([code, 0x70] + five)
+
+    def advance(self):
+        """One right step from where the tag is towards ACTIVE."""
+        state = self.radio.state
+        if state == "IDLE":
+            self.frame(self.dice.one_of([REQA, WUPA]), parity_good=not self.dice.one_in(8))
+        elif state == "HALT":
+            self.frame(WUPA, parity_good=not self.dice.one_in(8))
+        else:
+            if self.dice.one_in(10):
+                self.frame(self.anticollision_bits(self.dice.below(40)))
+            self.frame(self.select_bits())
+
+    def to_waiting(self, wait=None):
+        """To IDLE or to HALT; without a wish, to whichever is near."""
+        radio = self.radio
+        if wait == "IDLE" and (radio.state == "HALT" or radio.woken_from_halt):
+            self.say("field")
+        if wait == "HALT" and radio.state != "HALT" and not (
+                radio.woken_from_halt and radio.state != "IDLE"):
+            while radio.state != "ACTIVE":
+                self.advance()
+            self.command(0x50, 0x00)
+        if radio.state not in ("IDLE", "HALT"):
+            self.frame(REQA)
+
+    def reach(self, state, wait=None):
+        """To a state, on a way that has the wished wait state."""
+        if self.radio.state == state and wait in (None, self.radio.wait_state()):
+            return
+        self.to_waiting(wait or (state if state in ("IDLE", "HALT") else None))
+        while self.radio.state != state:
+            self.advance()
+
+    def authenticate(self):
+        """In ACTIVE, with the right password."""
+        self.reach("ACTIVE")
+        self.command(0x1B, *self.password())
+
+    def active(self, authenticated=False):
+        """To ACTIVE; authenticated, if wished and if the failed count allows it."""
+        self.reach("ACTIVE")
+        if authenticated and not self.radio.authenticated:
+            self.authenticate()
+            self.reach("ACTIVE")
+
+    # ---- Two wires
+
+    def event(self, number, byte=0x00):
+        """An event, under its own name or by its number."""
+        if self.dice.one_in(12):
+            self.say(f"event {number} {byte:02X}")
+        else:
+            self.say(["start", "stop", f"send {byte:02X}", "read ack", "read nak"][number])
+
+    def start(self):
+        self.event(0)
+
+    def stop(self):
+        self.event(1)
+
+    def send(self, *data):
+        for byte in data:
+            self.event(2, byte)
+
+    def read(self, amount):
+        """Some bytes with ACK, the last without."""
+        for _ in range(amount - 1):
+            self.event(3)
+        self.event(4)
+
+    def address(self, address):
+        self.start()
+        self.send(0xA0, address // 256, address % 256)
+
+    def read_on(self, amount):
+        """Reads from where the counter stands."""
+        self.start()
+        self.send(0xA1)
+        self.read(amount)
+
+    def any_place(self):
+        """An address in the window, often at one of its edges."""
+        end = self.layout.window_end
+        return self.dice.one_of([
+            0x4000 + self.dice.below(16), end - 1 - self.dice.below(24),
+            0x4000 + 64 * self.dice.below((end - 0x4000) // 64) + 63 - self.dice.below(4),
+            0x4000 + self.dice.below(end - 0x4000)])
+
+    def to_phase(self, phase):
+        """Brings the two wires into a phase."""
+        if phase == "rest":
+            self.stop()
+            return
+        self.start()
+        if phase == "deaf":
+            self.send(self.dice.one_of([0x20, 0x21, 0xA2, 0xA3, 0x50]))
+        elif phase == "read":
+            self.send(0xA1)
+        elif phase in ("high", "low", "write"):
+            place = self.any_place()
+            steps = {"high": 0, "low": 1, "write": 2}[phase]
+            self.send(*[0xA0, place // 256, place % 256][:1 + steps])
