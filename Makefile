@@ -1,7 +1,9 @@
 # make run   plays a day on the tag (day/day.txt)
 # make test  the gate: the stored scripts are those of the second opinion, and everything is proved and run
 # make long  compares the tag with the second opinion on a million lines of fresh scripts (N=1000 SEED=7: so many, from that seed)
-.PHONY: run test long scripts
+# make board builds the library for firmware in C, and runs a main loop over it
+# make bench times the proved tag against a plain one in C
+.PHONY: run test long scripts board bench
 
 run:
 	@./day/play
@@ -13,6 +15,12 @@ test:
 long:
 	@./corridor --build
 	@python3 second long $(N) $(SEED)
+
+board:
+	@tools/native board
+
+bench:
+	@tools/native bench
 
 # writes the scripts anew that the gate plays
 scripts:

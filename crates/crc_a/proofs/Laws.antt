@@ -1,9 +1,9 @@
--- Laws of CRC_A: the standard's examples, the two loops' turns and ends, and that bytes with their CRC_A behind them are right.
+-- Laws of CRC_A: the standard's examples, the turns and the end of its loop, and that bytes with their CRC_A behind them are right.
 -- Assumes nothing.
 use mathlib.Core.Path.{_≡_, refl, sym, ap, _∙_}
 use mathlib.Core.List.{List, [], _∷_, _++_}
 use mathlib.Core.Bool.{true, false}
-use Prim.Native.Nat.{ℕ, suc, _+_, _-_, _*_, _/_, _%_, _≤_, _<_}
+use Prim.Native.Nat.{ℕ, _+_, _-_, _*_, _/_, _%_, _≤_, _<_}
 use native.Mathlib.Nat.{add-zero}
 use native.Mathlib.Numerals.{add-one}
 use native.Mathlib.Omega.{arith}
@@ -16,20 +16,6 @@ use Rattle.crc_a.specs.CrcA.{polynomial, start, shifted, shiftedBy, byte
 pub standard-examples : StandardExamples
 unfolding polynomial start shifted shiftedBy byteIn bytesIn crcA sent withCrc
 standard-examples = record { zeros = refl; counted = refl }
-
--- ---- eight shifts: what is left of them, from the register so far, comes to the whole byte's
-
-pub shift-turn : (c b k register next : ℕ) → k < 8 → shiftedBy (8 - k) register ≡ byteIn c b → next ≡ shifted register → shiftedBy (8 - (k + 1)) next ≡ byteIn c b
-unfolding shiftedBy
-shift-turn c b k register next l h e =
-    let n : 8 - k ≡ suc (8 - (k + 1)) = omega arith in
-    rw e (ap (λ (m : ℕ). shiftedBy m register) (sym n) ∙ h)
-
-pub shift-end : (c b k register : ℕ) → 8 ≤ k → shiftedBy (8 - k) register ≡ byteIn c b → register ≡ byteIn c b
-unfolding shiftedBy
-shift-end c b k register l h =
-    let n : 8 - k ≡ 0 = omega arith in
-    ap (λ (m : ℕ). shiftedBy m register) (sym n) ∙ h
 
 -- ---- the bytes: what is left of them, from the register so far, comes to the whole's
 

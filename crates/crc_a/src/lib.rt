@@ -3,24 +3,24 @@ ghost use mathlib.Core.Path.{_≡_};
 ghost use Prim.Native.Nat.{_+_, _≤_, _<_};
 ghost use lib.ListN.{length, take};
 ghost use lib.Seq.{sets};
-ghost use Rattle.crc_a.specs.CrcA.{shifted, byteIn, crcA, sent, crcRight};
+ghost use Rattle.crc_a.specs.CrcA.{byteIn, crcA, sent, crcRight};
+ghost use Rattle.crc_a.specs.Byte.{spread};
 
-fn shift(c: u16) -> u16
-    ensures { λ r. ⌜ r ≡ shifted c ⌝ }
+// The low byte of the register, with its low half laid over its high half.
+fn spread(low: u16) -> u16
+    requires { ⌜ low < 256 ⌝ }
+    ensures { λ r. ⌜ (r ≡ spread low) × (r < 256) ⌝ }
 {
-    (c >> 1) ^ (c % 2 * 0x8408)
+    low ^ (low % 16 * 16)
 }
 
+// A byte goes into the register: its eight shifts at once.
 fn take_byte(c: u16, b: u8) -> u16
     ensures { λ r. ⌜ r ≡ byteIn c b ⌝ }
 {
-    let mut register = c ^ b as u16;
-    let mut k: u8 = 0;
-    while k < 8 {
-        register = shift(register);
-        k += 1;
-    }
-    register
+    let register = c ^ b as u16;
+    let t = spread(register % 256);
+    (register / 256) ^ ((t * 256) ^ (t * 8) ^ (t / 16))
 }
 
 // The CRC_A of all the bytes. As sent, its low byte goes first.

@@ -77,6 +77,10 @@ module _ (r a b c x : ℕ) where
   unfolding sent
   sent-read d f p q s t u h = h .0 ∙ rw (p, q, s, t, u)
 
+pub sent-whole : (r : ℕ) (f : List ℕ) → (r ≡ forty (getD f 2 0) (getD f 3 0) (getD f 4 0) (getD f 5 0) (getD f 6 0)) × (r < 2 ^ 40) → r ≡ sent f
+unfolding sent
+sent-whole r f h = h .0
+
 -- ---- anticollision
 
 pub asks-within : (x : ℕ) → 0x20 ≤ x → x < 0x68 → leb (x % 16) 7 ≡ asks x

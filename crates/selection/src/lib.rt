@@ -99,10 +99,13 @@ fn own2(image: &[u8]) -> u64
     )
 }
 
-// The forty bits behind a frame's first two bytes.
+// The forty bits behind a frame's first two bytes; most frames have them all.
 fn sent(frame: &[u8]) -> u64
     ensures { λ r. ⌜ r ≡ sent (now (frame .entry)) ⌝ }
 {
+    if 7 <= frame.len() {
+        return forty(frame[2], frame[3], frame[4], frame[5], frame[6]);
+    }
     forty(
         arg(frame, 2),
         arg(frame, 3),

@@ -164,8 +164,7 @@ fn idle(phase: Phase, counter: u16) -> BusRecord
 }
 
 // The record at rest that a driver begins with.
-#[no_mangle]
-pub extern "C" fn bus_at_rest() -> BusRecord
+pub fn bus_at_rest() -> BusRecord
     ensures { λ r. ⌜ r ≡ atRest ⌝ }
 {
     idle(Phase::Rest, FIRST)
@@ -460,9 +459,15 @@ pub fn step(image: &mut [u8], rec: BusRecord, event: u8, byte: u8) -> BusStep
     }
 }
 
-// An event on the two wires. The pin driver lends its record, which is updated where the driver has it.
+// An event on the two wires. The pin driver lends its record, which is updated where the driver has it. Its name is the one that C links:
+// include/corridor_tag.h declares it.
 #[no_mangle]
-pub extern "C" fn bus_event(rec: &mut BusRecord, image: &mut [u8], event: u8, byte: u8) -> BusAnswer
+pub extern "C" fn corridor_bus_event(
+    rec: &mut BusRecord,
+    image: &mut [u8],
+    event: u8,
+    byte: u8,
+) -> BusAnswer
     ensures { λ r. ⌜ Did (does (now (image .entry)) (now (rec .entry)) event byte) (record { answer = r; bus = now (rec .exit) }) (now (image .entry)) (now (image .exit)) ⌝ }
 {
     let b = *rec;

@@ -1,3 +1,4 @@
+-- `corridor::play` meets its contract. Assumes nothing.
 use borrow.Author.Needs.{needs}
 use Rattle.corridor.specs.Held.{Within, Reads}
 use Rattle.corridor.proofs.play.Statement.{statement}

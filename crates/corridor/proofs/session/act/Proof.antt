@@ -1,3 +1,4 @@
+-- `corridor::session::act` meets its contract. Assumes nothing.
 use borrow.Author.Needs.{needs}
 use Rattle.corridor.proofs.Laws.{image-fits, buffer-fits, frame-fits, acted-by}
 use Rattle.corridor.proofs.session.act.Statement.{statement}

@@ -1,3 +1,4 @@
+-- `corridor::session::call_frame` meets its contract. Assumes nothing.
 use borrow.Author.Needs.{needs}
 use Rattle.corridor.proofs.Laws.{frame-front}
 use Rattle.corridor.proofs.session.call_frame.Statement.{statement}

@@ -1,3 +1,4 @@
+-- `corridor::session::call_step` meets its contract. Assumes nothing.
 use borrow.Author.Needs.{needs}
 use Rattle.corridor.proofs.Laws.{step-front}
 use Rattle.corridor.proofs.session.call_step.Statement.{statement}

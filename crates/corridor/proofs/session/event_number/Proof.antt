@@ -1,3 +1,4 @@
+-- `corridor::session::event_number` meets its contract. Assumes nothing.
 use borrow.Author.Needs.{needs}
 use Rattle.corridor.proofs.Laws.{large-number}
 use Rattle.corridor.proofs.session.event_number.Statement.{statement}

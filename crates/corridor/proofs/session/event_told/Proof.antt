@@ -1,3 +1,4 @@
+-- `corridor::session::event_told` meets its contract. Assumes nothing.
 use borrow.Author.Needs.{needs}
 use Rattle.corridor.proofs.Laws.{event-refused, event-done, event-byte, event-declined, event-acknowledged}
 use Rattle.corridor.proofs.session.event_told.Statement.{statement}

@@ -1,3 +1,4 @@
+-- `corridor::session::frame_told` meets its contract. Assumes nothing.
 use borrow.Author.Needs.{needs}
 use Rattle.corridor.proofs.Laws.{told-refused, told-silence, told-bits}
 use Rattle.corridor.proofs.session.frame_told.Statement.{statement}

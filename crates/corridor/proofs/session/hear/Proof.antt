@@ -1,3 +1,4 @@
+-- `corridor::session::hear` meets its contract. Assumes nothing.
 use borrow.Author.Needs.{needs}
 use Rattle.corridor.proofs.Laws.{bits-within, hear-done}
 use Rattle.corridor.proofs.session.hear.Statement.{statement}

@@ -1,3 +1,4 @@
+-- `corridor::session::lose_field` meets its contract. Assumes nothing.
 use borrow.Author.Needs.{needs}
 use Rattle.corridor.proofs.Laws.{field-lost}
 use Rattle.corridor.proofs.session.lose_field.Statement.{statement}

@@ -1,3 +1,4 @@
+-- `corridor::session::new_session` meets its contract. Assumes nothing.
 use borrow.Author.Needs.{needs}
 use Rattle.corridor.proofs.Laws.{opened}
 use Rattle.corridor.proofs.session.new_session.Statement.{statement}

@@ -1,3 +1,4 @@
+-- `corridor::session::respond` meets its contract. Assumes nothing.
 use borrow.Author.Needs.{needs}
 use Rattle.corridor.proofs.Laws.{responded-nothing, responded}
 use Rattle.corridor.proofs.session.respond.Statement.{statement}

@@ -1,3 +1,4 @@
+-- `corridor::session::see` meets its contract. Assumes nothing.
 use borrow.Author.Needs.{needs}
 use Rattle.corridor.proofs.Laws.{see-done}
 use Rattle.corridor.proofs.session.see.Statement.{statement}

@@ -1,3 +1,4 @@
+-- `corridor::session::take_image` meets its contract. Assumes nothing.
 use borrow.Author.Needs.{needs}
 use Rattle.corridor.proofs.Laws.{took}
 use Rattle.corridor.proofs.session.take_image.Statement.{statement}

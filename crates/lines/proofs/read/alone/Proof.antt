@@ -1,3 +1,4 @@
+-- `lines::read::alone` meets its contract. Assumes nothing.
 use borrow.Author.Needs.{needs}
 use Rattle.lines.proofs.Saying.{alone-told}
 use Rattle.lines.proofs.read.alone.Statement.{statement}

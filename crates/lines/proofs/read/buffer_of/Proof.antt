@@ -1,3 +1,4 @@
+-- `lines::read::buffer_of` meets its contract. Assumes nothing.
 use borrow.Author.Needs.{needs}
 use Rattle.lines.proofs.Saying.{buffer-told, buffer-large, buffer-none}
 use Rattle.lines.proofs.read.buffer_of.Statement.{statement}

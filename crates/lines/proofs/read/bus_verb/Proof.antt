@@ -1,3 +1,4 @@
+-- `lines::read::bus_verb` meets its contract. Assumes nothing.
 use borrow.Author.Needs.{needs}
 use Rattle.lines.specs.Said.{busVerb}
 use Rattle.lines.proofs.Reading.{named, missed, not-bus, is-start, is-stop, is-send, is-read}

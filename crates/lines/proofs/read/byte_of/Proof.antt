@@ -1,3 +1,4 @@
+-- `lines::read::byte_of` meets its contract. Assumes nothing.
 use borrow.Author.Needs.{needs}
 use Rattle.lines.proofs.Saying.{byte-short, byte-bad, byte-good}
 use Rattle.lines.proofs.read.byte_of.Statement.{statement}

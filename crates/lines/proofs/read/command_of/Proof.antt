@@ -1,3 +1,4 @@
+-- `lines::read::command_of` meets its contract. Assumes nothing.
 use borrow.Author.Needs.{needs}
 use Rattle.lines.proofs.Saying.{said-front}
 use Rattle.lines.proofs.read.command_of.Statement.{statement}

@@ -1,3 +1,4 @@
+-- `lines::read::decimal_digit` meets its contract. Assumes nothing.
 use borrow.Author.Needs.{needs}
 use Rattle.lines.proofs.Reading.{decs}
 use Rattle.lines.proofs.read.decimal_digit.Statement.{statement}

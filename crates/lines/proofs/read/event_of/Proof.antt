@@ -1,3 +1,4 @@
+-- `lines::read::event_of` meets its contract. Assumes nothing.
 use borrow.Author.Needs.{needs}
 use Rattle.lines.proofs.Saying.{event-nothing, event-more, event-alone}
 use Rattle.lines.proofs.read.event_of.Statement.{statement}

@@ -1,3 +1,4 @@
+-- `lines::read::event_with` meets its contract. Assumes nothing.
 use borrow.Author.Needs.{needs}
 use Rattle.lines.proofs.Saying.{event-told, event-none}
 use Rattle.lines.proofs.read.event_with.Statement.{statement}

@@ -1,3 +1,4 @@
+-- `lines::read::frame_of` meets its contract. Assumes nothing.
 use borrow.Author.Needs.{needs}
 use Rattle.lines.proofs.Saying.{frame-none, frame-more, frame-bad, frame-alone}
 use Rattle.lines.proofs.Laws.{counted}

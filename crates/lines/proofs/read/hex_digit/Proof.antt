@@ -1,3 +1,4 @@
+-- `lines::read::hex_digit` meets its contract. Assumes nothing.
 use borrow.Author.Needs.{needs}
 use Rattle.lines.proofs.Reading.{hex-low, hex-digit, hex-mid, hex-capital, hex-between, hex-small, hex-high}
 use Rattle.lines.proofs.read.hex_digit.Statement.{statement}

@@ -1,3 +1,4 @@
+-- `lines::read::hex_pair` meets its contract. Assumes nothing.
 use borrow.Author.Needs.{needs}
 use Rattle.lines.proofs.Reading.{pairs}
 use Rattle.lines.proofs.read.hex_pair.Statement.{statement}

@@ -1,3 +1,4 @@
+-- `lines::read::image_of` meets its contract. Assumes nothing.
 use borrow.Author.Needs.{needs}
 use Rattle.lines.proofs.Saying.{image-told, image-none}
 use Rattle.lines.proofs.Laws.{counted}

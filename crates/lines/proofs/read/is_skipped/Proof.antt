@@ -1,3 +1,4 @@
+-- `lines::read::is_skipped` meets its contract. Assumes nothing.
 use borrow.Author.Needs.{needs}
 use Rattle.lines.proofs.Saying.{skips-empty, skips-comment}
 use Rattle.lines.proofs.read.is_skipped.Statement.{statement}

@@ -1,3 +1,4 @@
+-- `lines::read::other_verb` meets its contract. Assumes nothing.
 use borrow.Author.Needs.{needs}
 use Rattle.lines.specs.Said.{otherVerb}
 use Rattle.lines.proofs.Reading.{named, missed, not-other, is-event, is-field, is-show, is-help}

@@ -1,3 +1,4 @@
+-- `lines::read::read_of` meets its contract. Assumes nothing.
 use borrow.Author.Needs.{needs}
 use Rattle.lines.proofs.Saying.{read-ack, read-nak, read-none}
 use Rattle.lines.proofs.Reading.{missed}

@@ -1,3 +1,4 @@
+-- `lines::read::verb_of` meets its contract. Assumes nothing.
 use borrow.Author.Needs.{needs}
 use Rattle.lines.specs.Said.{verbOf}
 use Rattle.lines.proofs.Reading.{named, missed, not-radio, is-frame, is-parity, is-image, is-buffer}

@@ -1,3 +1,4 @@
+-- `lines::read::with_rest` meets its contract. Assumes nothing.
 use borrow.Author.Needs.{needs}
 use Rattle.lines.proofs.Saying.{with-told}
 use Rattle.lines.proofs.read.with_rest.Statement.{statement}

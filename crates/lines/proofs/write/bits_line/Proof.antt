@@ -1,3 +1,4 @@
+-- `lines::write::bits_line` meets its contract. Assumes nothing.
 use borrow.Author.Needs.{needs}
 use Rattle.lines.proofs.Laying.{bits-line}
 use Rattle.lines.proofs.write.bits_line.Statement.{statement}

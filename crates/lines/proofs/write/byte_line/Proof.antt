@@ -1,3 +1,4 @@
+-- `lines::write::byte_line` meets its contract. Assumes nothing.
 use borrow.Author.Needs.{needs}
 use Rattle.lines.proofs.Laying.{byte-line}
 use Rattle.lines.proofs.write.byte_line.Statement.{statement}

@@ -1,3 +1,4 @@
+-- `lines::write::fixed` meets its contract. Assumes nothing.
 use borrow.Author.Needs.{needs}
 use Rattle.lines.proofs.Laying.{fixed-line}
 use Rattle.lines.proofs.write.fixed.Statement.{statement}

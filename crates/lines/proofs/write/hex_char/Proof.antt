@@ -1,3 +1,4 @@
+-- `lines::write::hex_char` meets its contract. Assumes nothing.
 use borrow.Author.Needs.{needs}
 use Rattle.lines.proofs.Laying.{char-low, char-high}
 use Rattle.lines.proofs.write.hex_char.Statement.{statement}

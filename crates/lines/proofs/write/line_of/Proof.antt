@@ -1,3 +1,4 @@
+-- `lines::write::line_of` meets its contract. Assumes nothing.
 use borrow.Author.Needs.{needs}
 use Rattle.lines.proofs.Laying.{told-by}
 use Rattle.lines.proofs.Laws.{taken-fits, lent-fits, bits-fit, shown-fits}

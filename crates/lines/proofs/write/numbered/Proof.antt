@@ -1,3 +1,4 @@
+-- `lines::write::numbered` meets its contract. Assumes nothing.
 use borrow.Author.Needs.{needs}
 use Rattle.lines.proofs.Laying.{numbered-line}
 use Rattle.lines.proofs.write.numbered.Statement.{statement}

@@ -1,3 +1,4 @@
+-- `lines::write::put` meets its contract. Assumes nothing.
 use borrow.Author.Needs.{needs}
 use Rattle.lines.proofs.Laying.{put-whole}
 use Rattle.lines.proofs.write.put.Statement.{statement}

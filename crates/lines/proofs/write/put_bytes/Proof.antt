@@ -1,3 +1,4 @@
+-- `lines::write::put_bytes` meets its contract. Assumes nothing.
 use borrow.Author.Needs.{needs}
 use Prim.Native.Nat.{_≤_, _+_, _*_, _-_}
 use lib.ListN.{length, take, length-set}

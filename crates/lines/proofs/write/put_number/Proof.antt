@@ -1,3 +1,4 @@
+-- `lines::write::put_number` meets its contract. Assumes nothing.
 use borrow.Author.Needs.{needs}
 use Rattle.lines.proofs.Laying.{number-laid}
 use Rattle.lines.proofs.write.put_number.Statement.{statement}

@@ -1,3 +1,4 @@
+-- `lines::write::shown_line` meets its contract. Assumes nothing.
 use borrow.Author.Needs.{needs}
 use Rattle.lines.proofs.Laying.{shown-line, nothing-shown}
 use Rattle.lines.proofs.write.shown_line.Statement.{statement}

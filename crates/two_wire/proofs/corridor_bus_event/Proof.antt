@@ -1,4 +1,4 @@
--- `two_wire::bus_event` meets its contract, by a walk of its four lines in the program logic: a `&mut` of a struct has no covered form. The
+-- `two_wire::corridor_bus_event` meets its contract, by a walk of its four lines in the program logic: a `&mut` of a struct has no covered form. The
 -- borrow of the record is opened and the record copied out, `step` is called on the copy with the slice, the record of its result is stored
 -- whole, the borrow is closed, and the answer is returned. Of `step` the walk knows the contract alone, and it names no field of the record.
 -- Assumes nothing.
@@ -56,10 +56,10 @@ use Rattle.two_wire.proofs.step as step
 use Rattle.two_wire.proofs.step.Symbol as step-def
 use Rattle.two_wire.proofs.step.Symbol.{name as #step}
 use Rattle.two_wire.proofs.step.Met as step-thm
-use Rattle.two_wire.proofs.bus_event.Key.{name as #outer}
-use Rattle.two_wire.proofs.bus_event as outer
-use Rattle.two_wire.proofs.bus_event.Statement as stated
-use Rattle.two_wire.proofs.bus_event.Code as code
+use Rattle.two_wire.proofs.corridor_bus_event.Key.{name as #outer}
+use Rattle.two_wire.proofs.corridor_bus_event as outer
+use Rattle.two_wire.proofs.corridor_bus_event.Statement as stated
+use Rattle.two_wire.proofs.corridor_bus_event.Code as code
 
 abbrev stayed : Stays (outer.ended .signature .params) (outer.ended .kept)
 stayed = (stay-ref (0 ∷ []) tt (plain (λ _. Rec.the-row)), (gave-slice (1 ∷ []) tt (plain (λ _. u8)), (stay-none (λ _. u8) yes, (stay-none (λ _. u8) yes, tt))))
@@ -166,9 +166,9 @@ meets 𝓤 H A W mem run 𝓣 known =
     walk-meets 𝓤 H A outer.ended stayed W (goes-ref 𝓤 H A W 2 0 tt (plain (λ _. Rec.the-row)), (goes-gave-slice 𝓤 H A W 2 1 tt (plain (λ _. u8)), (goes-none 𝓤 H A W 2 (λ _. u8) yes (λ κs x f. refl), (goes-none 𝓤 H A W 2 (λ _. u8) yes (λ κs x f. refl), tt)))) (outer.clauses 𝓤 H A mem run)
     (WpFn 𝓤 H (𝓣 .C) (𝓣 .Λ) code.function) (WpFn-mono 𝓤 H (W .laws) 𝓣 code.function) (walks 𝓤 H A W mem run (𝓣 .C) (𝓣 .Λ) (fmOf 𝓤 H (W .laws) 𝓣) known)
 
-pub bus-event-spec : {M : Type 1} → stated.statement M
+pub corridor-bus-event-spec : {M : Type 1} → stated.statement M
 unfolding code.routine tablesOf
-bus-event-spec 𝓤 H 𝓜 𝓖 𝓡 =
+corridor-bus-event-spec 𝓤 H 𝓜 𝓖 𝓡 =
     entered 𝓤 H (tripleOf 𝓤 H (𝓖 .A) outer.signature (outer.spec 𝓤 H (𝓖 .A) (𝓜 .mem) (𝓡 .run)))
     (tables 𝓤 H 𝓜 𝓡 code.env .C) (tables 𝓤 H 𝓜 𝓡 code.env .Λ) #outer code.function (code.unfolded 𝓤 H 𝓜 𝓡)
     (meets 𝓤 H (𝓖 .A) (givenOf 𝓤 H 𝓜 𝓖) (𝓜 .mem) (𝓡 .run) (tablesOf 𝓤 H 𝓜 (tables 𝓤 H 𝓜 𝓡 code.env))

@@ -1,0 +1,13 @@
+-- What a firmware asks beside the calls. Assumes nothing.
+use Prim.Native.Nat.{ℕ}
+use Rattle.image.specs.declared.Size.{Size}
+use Rattle.image.specs.declared.Size.the-variants.{Pages, Unknown}
+
+-- "The length tells the size"; 0 where it tells none
+abbrev pub pagesOf : Size → ℕ
+pagesOf (Pages n) = n
+pagesOf Unknown = 0
+
+-- "2: frame call: answer buffer under 1,024 bytes"
+abbrev pub answerRoom : ℕ
+answerRoom = 1024
