@@ -1,7 +1,7 @@
 -- What the examples compute with: to unfold this name is to unfold every definition of the radio side. Assumes nothing.
 use Rattle.crc_a.specs.CrcA.{polynomial, start, shifted, shiftedBy, byteIn, bytesIn, crcA, sent as crcaCrcASent, withCrc, crcRight}
 use Rattle.locks.specs.Locks.{lockBits, pagesEach, lockOf, setIn, lockedBy, clearAt, staticBlock, mayStatic, staticGain, dynamicBlock, mayDynamic, dynamicGain, mayBlock, blockGain}
-use Rattle.locks.specs.Table.{rowFor, rowAt, firstRow, Finds, mayRow}
+use Rattle.locks.specs.Table.{rowFor, rowAt, firstRow, mayRow}
 use Rattle.image.specs.Layout.{sizeOf, byte, pageAt, bytesOf, store, regionOf}
 use Rattle.image.specs.Shown.{shown}
 use Rattle.image.specs.Tail.{counterIn, counter, nextCount, counted, withFailed}
@@ -21,5 +21,5 @@ use Rattle.demands.specs.Run.{ours, fromOff, next, atEnd, imageAfter, ac
 use Rattle.demands.specs.Wrong.{lazy, unless, once}
 
 unfoldable pub computes : Unit {0}
-unfolding polynomial start shifted shiftedBy byteIn bytesIn crcA crcaCrcASent withCrc crcRight lockBits pagesEach lockOf setIn lockedBy clearAt staticBlock mayStatic staticGain dynamicBlock mayDynamic dynamicGain mayBlock blockGain rowFor rowAt firstRow Finds mayRow sizeOf byte pageAt bytesOf store regionOf shown counterIn counter nextCount counted withFailed uid bcc0 bcc1 statics dynamics blocks locked staticsWritten capabilityWritten dynamicsWritten writtenIn written imageWriteWrite bitsOf byteOf lowBytes answerOf over apply lost nak fieldOff moved woken waitState backToWait selected halted granted authenticatedIn authenticated answering bound pageByte pagesFrom counting readAnswered read fastRead underPassword refusesIn refuses commandsCommandsWrite sizeCode version countReadable readCount limitReached same failing accepted rejected pwdAuth hlta args lengthOf named commandOf done inActive isReqa isWupa wakes inIdle inHalt forty own1 own2 selectionSelectionSent asks known anticollision select inReady inReady1 inReady2 heardIn heard padded isFrame refusal taken calledAt called wupa select1 select2 waitOf stateOf meant tagOf flagOf waitNumber recordIn recordOf fieldLoss Holds ours fromOff next atEnd imageAfter acks dataFor newFor lastWritten carries offers noneOffers lazy unless once
+unfolding polynomial start shifted shiftedBy byteIn bytesIn crcA crcaCrcASent withCrc crcRight lockBits pagesEach lockOf setIn lockedBy clearAt staticBlock mayStatic staticGain dynamicBlock mayDynamic dynamicGain mayBlock blockGain rowFor rowAt firstRow mayRow sizeOf byte pageAt bytesOf store regionOf shown counterIn counter nextCount counted withFailed uid bcc0 bcc1 statics dynamics blocks locked staticsWritten capabilityWritten dynamicsWritten writtenIn written imageWriteWrite bitsOf byteOf lowBytes answerOf over apply lost nak fieldOff moved woken waitState backToWait selected halted granted authenticatedIn authenticated answering bound pageByte pagesFrom counting readAnswered read fastRead underPassword refusesIn refuses commandsCommandsWrite sizeCode version countReadable readCount limitReached same failing accepted rejected pwdAuth hlta args lengthOf named commandOf done inActive isReqa isWupa wakes inIdle inHalt forty own1 own2 selectionSelectionSent asks known anticollision select inReady inReady1 inReady2 heardIn heard padded isFrame refusal taken calledAt called wupa select1 select2 waitOf stateOf meant tagOf flagOf waitNumber recordIn recordOf fieldLoss Holds ours fromOff next atEnd imageAfter acks dataFor newFor lastWritten carries offers noneOffers lazy unless once
 computes = tt

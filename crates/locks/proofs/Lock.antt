@@ -1,4 +1,4 @@
--- Which bit locks a page: what a search of a size's rows finds is what document 01's arithmetic says; and a locked page stays locked.
+-- Which bit locks a page: what the table's row for it tells is what document 01's arithmetic says; and a locked page stays locked.
 -- Assumes nothing.
 use mathlib.Core.Path.{_≡_, _∙_, refl, sym, ap, subst}
 use mathlib.Core.Logic.{_⊎_, ⊎-elim}
@@ -9,7 +9,7 @@ use lib.Dec.{leb, ltb, eqb}
 use borrow.Author.Tests.{ltb-true, eqb-true, eq-eqb, lt-ltb, le-ltb, le-leb, lt-leb}
 use Rattle.locks.specs.Bits.{bitAt, isSet, Gains, ofBits}
 use Rattle.locks.specs.Locks.{Sized, lockPage, lockBits, pagesEach, dynamicBlock, lockOf, setIn, lockedBy, clearAt, mayDynamic}
-use Rattle.locks.specs.Table.{firstPage, lastPage, blockBit, rowFor, rowAt, firstRow, Covers, Finds, mayRow}
+use Rattle.locks.specs.Table.{firstPage, lastPage, blockBit, rowFor, rowAt, firstRow, Covers, mayRow}
 use Rattle.locks.proofs.Bits.{ofBits-zeros}
 use Rattle.locks.specs.declared.Row.{Row}
 use Rattle.locks.specs.declared.LockBit.{LockBit}
@@ -25,24 +25,7 @@ sized-most s = ⊎-elim (λ e. omega arith) (λ s. ⊎-elim (λ e. omega arith) 
 pub by-size : (P : ℕ → Type 0) → P 45 → P 135 → P 231 → {n : ℕ} → Sized n → P n
 by-size P a b c s = ⊎-elim (λ e. subst P (sym e) a) (λ s. ⊎-elim (λ e. subst P (sym e) b) (λ e. subst P (sym e) c) s) s
 
--- ---- the search of a size's rows
-
-module _ (n start count : ℕ) (rows : (i : ℕ) → i < count → rowAt (start + i) ≡ rowFor n i)
-    (hit : (i p : ℕ) → Covers (rowFor n i) p → (16 ≤ p) × (p < lockPage n) × ((p - 16) / pagesEach n ≡ i))
-    (cover : (p : ℕ) → 16 ≤ p → p < lockPage n → ((p - 16) / pagesEach n < count) × Covers (rowFor n ((p - 16) / pagesEach n)) p) where
-  found-is : (p : ℕ) (r : LockBit) → 16 ≤ p → Finds start count p r → r ≡ lockOf n p
-  unfolding Finds lockOf
-  found-is p (Static i) l f = absurd f
-  found-is p (Dynamic i) l f =
-      let h = hit i p (subst (λ (r : Row). Covers r p) (rows i (f .0)) (f .1)) in
-      simp (le-leb 3 p (omega arith), lt-ltb p (lockPage n) (h .1), le-ltb p 16 l) (ap Dynamic (sym (h .2)))
-  found-is p Absent l f = simp (le-leb 3 p (omega arith)) (outside (ltb p (lockPage n)) refl)
-    where
-      outside : (t : Bool) → ltb p (lockPage n) ≡ t → Absent ≡ cond t (cond (ltb p 16) (Static p) (Dynamic ((p - 16) / pagesEach n))) Absent
-      outside false e = refl
-      outside true e =
-          let h = cover p l (ltb-true p (lockPage n) e) in
-          absurd (f ((p - 16) / pagesEach n) (h .0) (subst (λ (r : Row). Covers r p) (sym (rows ((p - 16) / pagesEach n) (h .0))) (h .1)))
+-- ---- the row of a page
 
 -- the rows of a size stand at its place in the table
 rows-are : (n i : ℕ) → Sized n → i < lockBits n → rowAt (firstRow n + i) ≡ rowFor n i
@@ -62,25 +45,25 @@ rows-are n i s = by-size (λ n. i < lockBits n → rowAt (firstRow n + i) ≡ ro
         let e : 20 + i - 20 ≡ i = omega arith in
         rw (le-ltb (20 + i) 12 (omega arith), le-ltb (20 + i) 20 (omega arith), e)
 
-rows-hit : (n i p : ℕ) → Sized n → Covers (rowFor n i) p → (16 ≤ p) × (p < lockPage n) × ((p - 16) / pagesEach n ≡ i)
-unfolding rowFor pagesEach
-rows-hit n i p s =
-    by-size (λ n. Covers (rowFor n i) p → (16 ≤ p) × (p < lockPage n) × ((p - 16) / pagesEach n ≡ i))
-    (λ h. omega arith) (λ h. omega arith) (λ h. omega arith) s
+-- a page that is at most its row's last is a user page
+row-within : (n i p : ℕ) → Sized n → p ≤ lastPage (rowFor n i) → p < lockPage n
+unfolding rowFor
+row-within n i p s l = let least = sized-least s in omega arith
 
-rows-cover : (n p : ℕ) → Sized n → 16 ≤ p → p < lockPage n → ((p - 16) / pagesEach n < lockBits n) × Covers (rowFor n ((p - 16) / pagesEach n)) p
+-- a user page from 16 up is in the row that the arithmetic names
+row-covers : (n p : ℕ) → Sized n → 16 ≤ p → p < lockPage n → ((p - 16) / pagesEach n < lockBits n) × Covers (rowFor n ((p - 16) / pagesEach n)) p
 unfolding rowFor pagesEach lockBits
-rows-cover n p s =
+row-covers n p s =
     by-size (λ n. 16 ≤ p → p < lockPage n → ((p - 16) / pagesEach n < lockBits n) × Covers (rowFor n ((p - 16) / pagesEach n)) p)
     (λ h l. omega arith) (λ h l. omega arith) (λ h l. omega arith) s
 
 -- ---- the rows' block column
 
-pub block-lt : (k : ℕ) → k < 34 → blockBit (rowAt k) < 8
+pub block-lt : (k : ℕ) (r : Row) → k < 34 → r ≡ rowAt k → blockBit r < 16
 unfolding rowAt rowFor dynamicBlock
-block-lt k h = pick (ltb k 12) (ltb k 20) refl refl
+block-lt k r h e = rw e (pick (ltb k 12) (ltb k 20) refl refl)
   where
-    pick : (s t : Bool) → ltb k 12 ≡ s → ltb k 20 ≡ t → blockBit (cond s (rowFor 45 k) (cond t (rowFor 135 (k - 12)) (rowFor 231 (k - 20)))) < 8
+    pick : (s t : Bool) → ltb k 12 ≡ s → ltb k 20 ≡ t → blockBit (cond s (rowFor 45 k) (cond t (rowFor 135 (k - 12)) (rowFor 231 (k - 20)))) < 16
     pick true t p q = let l = ltb-true k 12 p in omega arith
     pick false true p q = let l = ltb-true k 20 q in omega arith
     pick false false p q = omega arith
@@ -105,10 +88,6 @@ rows-open n start count blocks mask s a b e =
 
 -- ---- what each way through the question shows
 
-pub found-here : (start count i p : ℕ) (r : Row) → i < count → r ≡ rowAt (start + i) → firstPage r ≤ p → p ≤ lastPage r → Finds start count p (Dynamic i)
-unfolding Finds
-found-here start count i p r l e a b = (l, subst (λ (r : Row). Covers r p) e (a, b))
-
 pub no-lock : (n p : ℕ) → p < 3 → Absent ≡ lockOf n p
 unfolding lockOf
 no-lock n p l = simp (lt-leb _ _ l)
@@ -119,9 +98,35 @@ static-lock n p s h l =
     let least = sized-least s in
     simp (le-leb _ _ h, lt-ltb p (lockPage n) (omega arith), lt-ltb _ _ l)
 
-pub dynamic-lock : (n start count p : ℕ) (r : LockBit) → Sized n → start ≡ firstRow n → count ≡ lockBits n → 16 ≤ p → Finds start count p r → r ≡ lockOf n p
-dynamic-lock n start count p r s a b =
-    rw (a, b) (found-is n (firstRow n) (lockBits n) (λ i. rows-are n i s) (λ i p. rows-hit n i p s) (λ p. rows-cover n p s) p r)
+-- a page from 16 up that its row lacks is no user page
+no-row : (n p : ℕ) → Sized n → 16 ≤ p → ((p - 16) / pagesEach n < lockBits n → Covers (rowFor n ((p - 16) / pagesEach n)) p → ⊥) → Absent ≡ lockOf n p
+unfolding lockOf
+no-row n p s h lacks = simp (le-leb 3 p (omega arith)) (outside (ltb p (lockPage n)) refl)
+  where
+    outside : (t : Bool) → ltb p (lockPage n) ≡ t → Absent ≡ cond t (cond (ltb p 16) (Static p) (Dynamic ((p - 16) / pagesEach n))) Absent
+    outside false e = refl
+    outside true e = let g = row-covers n p s h (ltb-true p (lockPage n) e) in absurd (lacks (g .0) (g .1))
+
+-- what the row of its candidate i tells of a page from 16 up
+module _ (n count i p : ℕ) (s : Sized n) (h : 16 ≤ p) (b : count ≡ lockBits n) (e : i ≡ (p - 16) / pagesEach n) where
+  pub past-rows : count ≤ i → Absent ≡ lockOf n p
+  past-rows l = no-row n p s h (λ g f. omega arith)
+
+  module _ (start : ℕ) (r : Row) (a : start ≡ firstRow n) (q : r ≡ rowAt (start + i)) (l : i < count) where
+    is-row : r ≡ rowFor n i
+    is-row = q ∙ rw a (rows-are n i s (omega arith))
+
+    pub before-row : p < firstPage r → Absent ≡ lockOf n p
+    before-row m = no-row n p s h (λ g f. omega (arith, ap firstPage is-row, rw (← e) at (f .0)))
+
+    pub after-row : lastPage r < p → Absent ≡ lockOf n p
+    after-row m = no-row n p s h (λ g f. omega (arith, ap lastPage is-row, rw (← e) at (f .1)))
+
+    pub in-row : p ≤ lastPage r → Dynamic i ≡ lockOf n p
+    unfolding lockOf
+    in-row m =
+        let within = row-within n i p s (rw is-row at m) in
+        simp (le-leb 3 p (omega arith), lt-ltb p (lockPage n) within, le-ltb p 16 h) (ap Dynamic e)
 
 -- ---- the lock bit that was found is one of sixteen
 

@@ -18,3 +18,7 @@ module _ {A : Type 0} (rule : ℕ → A) where
 
   pub at : (n i : ℕ) (other : A) → i < n → getD (rows 0 n) i other ≡ rule i
   at n i other h = from 0 n i other h ∙ ap rule (zero-add i)
+
+  -- of a copy of the table
+  pub copy-at : (table : List A) (n i : ℕ) (other : A) → table ≡ rows 0 n → i < n → getD table i other ≡ rule i
+  copy-at table n i other e h = rw e (at n i other h)

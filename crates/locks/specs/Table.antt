@@ -1,11 +1,9 @@
 -- The table of all 34 dynamic lock bits, by its rule: rows 0-11 are N=45, rows 12-19 N=135, rows 20-33 N=231. Assumes nothing.
 use mathlib.Core.Bool.{cond}
-use Prim.Native.Nat.{ℕ, _+_, _-_, _*_, _≤_, _<_, min}
+use Prim.Native.Nat.{ℕ, _+_, _-_, _*_, _≤_, min}
 use lib.Dec.{eqb, ltb}
 use Rattle.locks.specs.Locks.{lockPage, pagesEach, dynamicBlock, clearAt}
 use Rattle.locks.specs.declared.Row.{Row}
-use Rattle.locks.specs.declared.LockBit.{LockBit}
-use Rattle.locks.specs.declared.LockBit.the-variants.{Static, Dynamic, Absent}
 
 abbrev pub firstPage : Row → ℕ
 firstPage r = r .0
@@ -32,12 +30,6 @@ firstRow n = cond (eqb n 45) 0 (cond (eqb n 135) 12 20)
 -- the row has the page
 abbrev pub Covers : Row → ℕ → Type 0
 Covers r p = (firstPage r ≤ p) × (p ≤ lastPage r)
-
--- what a search of count rows from start on for page p finds
-unfoldable pub Finds : ℕ → ℕ → ℕ → LockBit → Type 0
-Finds start count p (Dynamic i) = (i < count) × Covers (rowAt (start + i)) p
-Finds start count p (Static i) = ⊥
-Finds start count p Absent = (i : ℕ) → i < count → Covers (rowAt (start + i)) p → ⊥
 
 -- lock bit i of the rows from start on may be set: the block bit of its row is clear
 unfoldable pub mayRow : ℕ → ℕ → ℕ → ℕ

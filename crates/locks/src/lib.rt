@@ -1,9 +1,9 @@
 // The two kinds of locks as numbers: which bit locks a page, and which bits a WRITE sets.
 ghost use mathlib.Core.Path.{_≡_};
-ghost use Prim.Native.Nat.{_+_, _≤_, _<_};
+ghost use Prim.Native.Nat.{_+_, _-_, _/_, _≤_, _<_};
 ghost use Rattle.locks.specs.Bits.{isSet, ofBits};
-ghost use Rattle.locks.specs.Locks.{Sized, lockBits, lockOf, lockedBy, clearAt, mayStatic, staticGain, mayDynamic, dynamicGain, mayBlock, blockGain};
-ghost use Rattle.locks.specs.Table.{rowAt, firstRow, Finds, mayRow};
+ghost use Rattle.locks.specs.Locks.{Sized, lockBits, pagesEach, lockOf, lockedBy, clearAt, mayStatic, staticGain, mayDynamic, dynamicGain, mayBlock, blockGain};
+ghost use Rattle.locks.specs.Table.{rowAt, firstRow, mayRow};
 
 // The bit that locks a page: of the static row, of the dynamic row, or none.
 pub enum LockBit {
@@ -86,24 +86,37 @@ fn rows_of(n: usize) -> Rows
     }
 }
 
-// The first of these rows that has the page.
-fn find(start: usize, count: usize, page: usize) -> LockBit
-    requires { ⌜ start + count ≤ 34 ⌝ }
-    ensures { λ r. ⌜ Finds start count page r ⌝ }
+// The one dynamic lock bit that can have a page from 16 up: the bits cover user pages in order, each as many.
+fn candidate(n: usize, page: usize) -> usize
+    requires { ⌜ 16 ≤ page ⌝ }
+    ensures { λ r. ⌜ r ≡ (page - 16) / pagesEach n ⌝ }
 {
-    let mut i: usize = 0;
-    while i < count {
-        let row = row_at(start + i);
-        let first = row.0 as usize;
-        let last = row.1 as usize;
-        if first <= page {
-            if page <= last {
-                return LockBit::Dynamic(i);
-            }
-        }
-        i += 1;
+    match n {
+        45 => (page - 16) / 2,
+        _ => (page - 16) / 16,
     }
-    LockBit::Absent
+}
+
+// The lock bit of a page from 16 up. The row of its candidate decides. No other is looked up: each look copies the table to the stack.
+fn dynamic_lock(n: usize, page: usize) -> LockBit
+    requires { ⌜ Sized n × (16 ≤ page) ⌝ }
+    ensures { λ r. ⌜ r ≡ lockOf n page ⌝ }
+{
+    let rows = rows_of(n);
+    let i = candidate(n, page);
+    if rows.count <= i {
+        return LockBit::Absent;
+    }
+    let row = row_at(rows.start + i);
+    let first = row.0 as usize;
+    let last = row.1 as usize;
+    if page < first {
+        return LockBit::Absent;
+    }
+    if last < page {
+        return LockBit::Absent;
+    }
+    LockBit::Dynamic(i)
 }
 
 // The bit that locks a page, at n pages.
@@ -114,10 +127,7 @@ pub fn lock_of(n: usize, page: usize) -> LockBit
     match page {
         0..=2 => LockBit::Absent,
         3..=15 => LockBit::Static(page),
-        _ => {
-            let rows = rows_of(n);
-            find(rows.start, rows.count, page)
-        }
+        _ => dynamic_lock(n, page),
     }
 }
 
@@ -162,11 +172,13 @@ fn row_mask(start: usize, count: usize, blocks: u16) -> u16
     requires { ⌜ (start + count ≤ 34) × (count ≤ 14) ⌝ }
     ensures { λ r. ⌜ r ≡ ofBits count (mayRow start blocks) ⌝ }
 {
+    // Copied once, where row_at would copy it at each turn.
+    let table = TABLE;
     let mut mask: u16 = 0;
     let mut i = count;
     while 0 < i {
         i -= 1;
-        let row = row_at(start + i);
+        let row = table[start + i];
         mask = clear(blocks, row.2 as usize) + 2 * mask;
     }
     mask

@@ -1,6 +1,6 @@
 -- `locks::lock_of` meets its contract, by the table's first and last pages. Assumes nothing.
 use borrow.Author.Needs.{needs}
-use Rattle.locks.proofs.Lock.{no-lock, static-lock, dynamic-lock}
+use Rattle.locks.proofs.Lock.{no-lock, static-lock}
 use Rattle.locks.proofs.lock_of.Statement.{statement}
 use Rattle.locks.proofs.lock_of.Tie as tie
 
@@ -10,15 +10,11 @@ returns c = search no-lock
 returns-2 : tie.Need-returns-2
 returns-2 c = search static-lock
 
-returns-3 : tie.Need-returns-3
-returns-3 c = search dynamic-lock
-
 pub lock-of-spec : {M : Type 1} → statement M
 lock-of-spec =
     tie.close
     (tie.spec
     (λ c κs. search needs)
-    (λ c κs. search needs)
     returns
     returns-2
-    returns-3)
+    (λ c. search needs))
