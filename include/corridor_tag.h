@@ -13,7 +13,7 @@
  * nothing. No record is refused: numbers without a meaning count as after field loss, or as a bus at rest. No call allocates, waits, or
  * keeps a pointer. Pointers must not be null, also where a length is 0, and no two buffers may overlap.
  *
- * Link target/staticlib/libboard.a, which `make board` writes. It needs memcpy, memset and memmove of its host.
+ * Link target/staticlib/libcorridor_tag.a, which `make board` writes. It needs at most memcpy, memset and memmove of its host.
  */
 #ifndef CORRIDOR_TAG_H
 #define CORRIDOR_TAG_H

@@ -17,9 +17,9 @@ use Rattle.active.specs.declared.Command.the-variants.{Unknown}
 
 -- ---- which command a frame is
 
-either-unknown : (b : Bool) → Unknown ≡ cond b Unknown Unknown
-either-unknown true = refl
-either-unknown false = refl
+pub same-either : (b : Bool) (c : Command) → c ≡ cond b c c
+same-either true c = refl
+same-either false c = refl
 
 -- a known code at its length, and at another
 module _ (code : ℕ) (f : List ℕ) (e : getD f 0 0 ≡ code) where
@@ -35,7 +35,7 @@ pub unknown : (f : List ℕ) → (getD f 0 0 ≡ 0x30 → ⊥) → (getD f 0 0 �
     → (getD f 0 0 ≡ 0x1B → ⊥) → (getD f 0 0 ≡ 0x50 → ⊥) → Unknown ≡ commandOf f
 unfolding commandOf lengthOf named
 unknown f p0 p1 p2 p3 p4 p5 p6 =
-    simp (ne-eqb _ _ p0, ne-eqb _ _ p1, ne-eqb _ _ p2, ne-eqb _ _ p3, ne-eqb _ _ p4, ne-eqb _ _ p5, ne-eqb _ _ p6) (either-unknown (eqb (length f) 0))
+    simp (ne-eqb _ _ p0, ne-eqb _ _ p1, ne-eqb _ _ p2, ne-eqb _ _ p3, ne-eqb _ _ p4, ne-eqb _ _ p5, ne-eqb _ _ p6) (same-either (eqb (length f) 0) Unknown)
 
 pub ruleset codes = (known, misfit, unknown)
 

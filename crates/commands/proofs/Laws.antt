@@ -1,7 +1,7 @@
 -- What each way through WRITE, GET_VERSION, READ_CNT, PWD_AUTH and HLTA shows. Assumes nothing.
 use mathlib.Core.Path.{_≡_, refl, sym, ap, _∙_}
 use mathlib.Core.List.{List, [], _∷_}
-use mathlib.Core.Bool.{Bool, true, false, not, _||_}
+use mathlib.Core.Bool.{Bool, true, false, not, _||_, or-true}
 use Prim.Native.Nat.{ℕ, _+_, _*_, _-_, _≤_, _<_}
 use native.Mathlib.Omega.{arith}
 use lib.Dec.{eqb, leb}
@@ -23,10 +23,6 @@ use Rattle.tag.specs.State.{moved, halted, granted, authenticated}
 use Rattle.tag.specs.Outcome.{bitsOf, answerOf, over, apply, Did}
 use Rattle.tag.proofs.Laws.{Silent, Naks, answered}
 use Rattle.commands.specs.Commands.{underPassword, refusesIn, refuses, write, sizeCode, version, countReadable, readCount, limitReached, same, failing, accepted, rejected, pwdAuth, hlta}
-
-or-true : (b : Bool) → (b || true) ≡ true
-or-true true = refl
-or-true false = refl
 
 -- ---- WRITE
 

@@ -1,10 +1,9 @@
 -- Laws of the corridor program: parts of buffers that are lent, and what each command leaves. Assumes nothing.
-use Prim.Native.Nat.{ℕ, _+_, _-_, _*_, _/_, _≤_, _<_}
+use Prim.Native.Nat.{ℕ, _+_, _-_, _*_, _≤_}
 use mathlib.Core.Path.{_≡_, refl, sym, ap, subst, subst⁻¹, _∙_}
 use mathlib.Core.Bool.{Bool, true, false, cond}
-use mathlib.Core.List.{List, [], _∷_, _++_}
+use mathlib.Core.List.{List, _++_}
 use native.Mathlib.Omega.{arith}
-use lib.Dec.{eqb}
 use lib.ListN.{length, take, drop, length-take}
 use lib.Seq.{take-at, take-take}
 use borrow.Author.Tests.{eq-eqb, ne-eqb}
@@ -33,11 +32,10 @@ use Rattle.lines.specs.Laid.{Laid}
 use Rattle.lines.specs.Said.{says, saidOf, isSkipped}
 use Rattle.lines.specs.Told as told
 use Rattle.lines.specs.Told.{Told, textOf, newline, bytesIn, tells, Line}
-use Rattle.corridor.specs.Played.{Board, Played, opening, takes, lends, loses, replyTold, callTold, hears, kindTold, eventTold, sees, played, answerTo, boardAfter}
+use Rattle.corridor.specs.Played.{Board, opening, takes, lends, loses, replyTold, callTold, hears, kindTold, eventTold, sees, played, answerTo, boardAfter}
 use Rattle.corridor.specs.Held.{boardOf, Within, Acts, Answers}
 use Rattle.corridor.specs.declared.session.Session.{Session}
 use Rattle.corridor.specs.declared.session.Acted.{Acted}
-use Rattle.corridor.specs.declared.session.Responded.{Responded}
 
 -- ---- the front of a buffer, lent and given back
 

@@ -2,7 +2,7 @@
 -- other bytes, with no smaller counter. Only the password authenticates, and silence keeps the image. Assumes nothing.
 use mathlib.Core.Path.{_≡_, refl, sym, ap, _∙_}
 use mathlib.Core.List.{List, [], _∷_}
-use mathlib.Core.Bool.{Bool, true, false, not, cond, _&&_, _||_}
+use mathlib.Core.Bool.{Bool, true, false, not, _&&_, _||_}
 use Prim.Native.Nat.{ℕ, _+_, _-_, _*_, _/_, _%_, _^_, _≤_}
 use native.Mathlib.Nat.{le-refl}
 use native.Mathlib.Omega.{arith}
@@ -31,7 +31,9 @@ use Rattle.active.specs.Frame.{lengthOf, named, commandOf, done, inActive}
 use Rattle.selection.specs.Selection.{isReqa, isWupa, wakes, inIdle, inHalt, own1, own2, sent, asks, known, anticollision, select, inReady, inReady1, inReady2}
 use Rattle.radio.specs.Call.{heardIn, heard}
 use Rattle.demands.specs.Run.{Frame, carries, offers}
-use Rattle.demands.proofs.Tests.{by, split, never, and-left, and-right}
+use Rattle.active.proofs.Laws.{same-either}
+use Rattle.selection.proofs.Laws.{and-left, and-right}
+use Rattle.demands.proofs.Tests.{by, split, never}
 
 -- four bits, Ah
 abbrev pub isAck : Reply → Bool
@@ -132,14 +134,10 @@ done-step n img t Unknown = nak-step n img t _ _ 0 refl
 
 -- ---- the states
 
-same-cond : (b : Bool) (c : Command) → cond b c c ≡ c
-same-cond true c = refl
-same-cond false c = refl
-
 -- a frame whose code names no command
 unknown-code : (f : List ℕ) (code : ℕ) → named f code ≡ Unknown → getD f 0 0 ≡ code → commandOf f ≡ Unknown
 unfolding commandOf
-unknown-code f code h e = rw (e, h) (same-cond (eqb (length f) (lengthOf code)) Unknown)
+unknown-code f code h e = rw (e, h) (sym (same-either (eqb (length f) (lengthOf code)) Unknown))
 
 -- a password is carried by a command of seven bytes alone
 other-carries : (pwd : Four) (f : List ℕ) (code : ℕ) → eqb code 0x1B ≡ false → carries pwd (named f code) ≡ false

@@ -29,7 +29,8 @@ use Rattle.radio.specs.Call.{Called, padded, isFrame, refusal, taken, calledAt,
 use Rattle.radio.proofs.Once.{read-again}
 use Rattle.demands.specs.Run.{Frame, Input, sent, lost, Call, ours, Board, fromOff, next, atEnd, imageAfter, acks, newFor, lastWritten, offers, noneOffers}
 use Rattle.demands.specs.Demand.{Meets2, Demand3, Holds, Keeps3}
-use Rattle.demands.proofs.Tests.{by, never, and-left, and-right, not-true}
+use Rattle.selection.proofs.Laws.{and-left, and-right}
+use Rattle.demands.proofs.Tests.{by, never, not-true}
 use Rattle.demands.proofs.Change.{Change, kept, heard-step}
 use Rattle.demands.proofs.Kept.{none-cleared-self, none-cleared-trans, refuses-locked, refuses-settings, refuses-protected, user-within, page-kept, clears-none, counter-after, user-after}
 

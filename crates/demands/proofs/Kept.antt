@@ -1,7 +1,7 @@
 -- What one change keeps, field by field of demand 3. Assumes nothing.
 use mathlib.Core.Path.{_≡_, refl, sym, _∙_}
 use mathlib.Core.List.{List}
-use mathlib.Core.Bool.{Bool, true, false, cond, _||_}
+use mathlib.Core.Bool.{true, false, cond, or-true}
 use Prim.Native.Nat.{ℕ, _-_, _≤_, _<_}
 use native.Mathlib.Nat.{le-refl}
 use native.Mathlib.Omega.{arith}
@@ -45,11 +45,7 @@ none-cleared-trans n a b c p q = record {
 
 refused-in : (n : ℕ) (img : List ℕ) (t : Tag) (p : ℕ) (r : Region) → regionOf n p ≡ r → refusesIn r n img p ≡ true → refuses n img t p ≡ true
 unfolding refuses
-refused-in n img t p r e h = rw (e, h) (either (underPassword n img t p))
-  where
-    either : (b : Bool) → b || true ≡ true
-    either true = refl
-    either false = refl
+refused-in n img t p r e h = rw (e, h) (or-true (underPassword n img t p))
 
 pub refuses-locked : (n : ℕ) (img : List ℕ) (t : Tag) (p : ℕ) → regionOf n p ≡ User → locked n img p ≡ true → refuses n img t p ≡ true
 unfolding refusesIn

@@ -3,8 +3,8 @@ use Prim.Native.Nat.{ℕ, _≤_, _<_}
 use mathlib.Core.Path.{_≡_, subst}
 use native.Mathlib.Omega.{arith}
 use Rattle.lines.specs.Bounds.{BytesFit, AnswerFits}
-use Rattle.lines.specs.declared.read.Bytes.{Bytes}
-use Rattle.lines.specs.declared.read.Bytes.the-variants.{Count}
+use Rattle.lines.specs.declared.words.Bytes.{Bytes}
+use Rattle.lines.specs.declared.words.Bytes.the-variants.{Count}
 use Rattle.lines.specs.declared.write.Answer.{Answer}
 use Rattle.lines.specs.declared.write.Answer.the-variants.{Taken, Lent, Bits, Shown}
 

@@ -6,16 +6,15 @@ use mathlib.Core.List.{List, [], _∷_, _++_, append-assoc, append-nil}
 use native.Mathlib.Numerals.{add-one}
 use native.Mathlib.Omega.{arith}
 use lib.Dec.{ltb, leb, eqb}
-use lib.ListN.{length, take, drop, set, getD, length-set, drop-of-length-le}
-use lib.Seq.{take-suc, take-suc-set, take-length, drop-cons}
+use lib.ListN.{length, take, drop, set, getD, drop-of-length-le}
+use lib.Seq.{take-suc-set, drop-cons}
 use borrow.Author.Tests.{lt-ltb, le-ltb, lt-leb, le-leb, eq-eqb, ne-eqb, eqb-true}
-use Rattle.lines.specs.Words.{wordEnd, decimalDigit, allDecimal, valueFrom, numberOf, hexDigit, hexPair, allPairs, pairsOf, givenOf, gives, none, these}
+use Rattle.lines.specs.Words.{wordEnd, decimalDigit, allDecimal, valueFrom, numberOf, hexDigit, hexPair, allPairs, pairsOf, givenOf, none, these}
 use Rattle.lines.specs.Names.{frameName, parityName, eventName, sendName, readName, startName, stopName, imageName, bufferName, fieldName, showName, helpName}
 use Rattle.lines.specs.Said.{sameList, verbOf, busVerb, otherVerb}
 use Rattle.lines.specs.declared.read.Verb.{Verb}
 use Rattle.lines.specs.declared.read.Verb.the-variants as verb
-use Rattle.lines.specs.declared.read.Number.{Number}
-use Rattle.lines.specs.declared.read.Number.the-variants as number
+use Rattle.lines.specs.declared.words.Number.the-variants as number
 
 module _ (b : ℕ) where
   pub dec-low : b < 48 → 10 ≡ decimalDigit b

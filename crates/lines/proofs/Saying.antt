@@ -1,22 +1,22 @@
 -- Laws of what a line says. Assumes nothing.
 use Prim.Native.Nat.{ℕ, _+_, _-_, _<_, _≤_}
-use mathlib.Core.Path.{_≡_, refl, ap, ap₂, sym, subst, _∙_}
-use mathlib.Core.Bool.{Bool, true, false, cond, _&&_, false≢true}
-use mathlib.Core.List.{List, [], _∷_}
+use mathlib.Core.Path.{_≡_, refl, ap, ap₂, sym, _∙_}
+use mathlib.Core.Bool.{Bool, true, false, cond}
+use mathlib.Core.List.{List, []}
 use native.Mathlib.Omega.{arith}
-use lib.Dec.{ltb, leb, eqb}
+use lib.Dec.{ltb, eqb}
 use lib.ListN.{length, take, drop, getD, length-take, length-drop}
 use lib.Seq.{take-all, getD-take}
 use borrow.Author.Tests.{lt-ltb, le-ltb, lt-leb, le-leb, eq-eqb, ne-eqb}
-use Rattle.lines.specs.Words.{wordEnd, firstOf, restOf, goesOn, numberOf, hexPair, Given, none, these, givenOf, gives, byteOf}
+use Rattle.lines.specs.Words.{wordEnd, firstOf, restOf, goesOn, numberOf, hexPair, Given, these, givenOf, gives, byteOf}
 use Rattle.lines.specs.Names.{ackName, nakName}
-use Rattle.lines.specs.Said.{Said, image, buffer, field, frame, event, wrong, sameList, isSkipped, verbOf, aloneOf, imageOf, bufferOf, frameWith, frameOf, eventWith, eventAt, eventOf, readOf, withOf, saidOf}
-use Rattle.lines.specs.declared.read.Number.{Number}
-use Rattle.lines.specs.declared.read.Number.the-variants as number
-use Rattle.lines.specs.declared.read.Byte.{Byte}
-use Rattle.lines.specs.declared.read.Byte.the-variants as byte
-use Rattle.lines.specs.declared.read.Bytes.{Bytes}
-use Rattle.lines.specs.declared.read.Bytes.the-variants as bytes
+use Rattle.lines.specs.Said.{Said, image, buffer, frame, event, wrong, sameList, isSkipped, verbOf, aloneOf, imageOf, bufferOf, frameWith, frameOf, eventWith, eventAt, eventOf, readOf, withOf, saidOf}
+use Rattle.lines.specs.declared.words.Number.{Number}
+use Rattle.lines.specs.declared.words.Number.the-variants as number
+use Rattle.lines.specs.declared.words.Byte.{Byte}
+use Rattle.lines.specs.declared.words.Byte.the-variants as byte
+use Rattle.lines.specs.declared.words.Bytes.{Bytes}
+use Rattle.lines.specs.declared.words.Bytes.the-variants as bytes
 use Rattle.lines.specs.declared.read.Verb.{Verb}
 
 pub alone-told : (v k : Verb) (s : Said) → v ≡ k → s ≡ aloneOf k → s ≡ aloneOf v

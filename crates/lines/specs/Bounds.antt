@@ -2,8 +2,8 @@
 use Prim.Native.Nat.{ℕ, _≤_}
 use Rattle.lines.specs.declared.read.Command.{Command}
 use Rattle.lines.specs.declared.read.Command.the-variants as command
-use Rattle.lines.specs.declared.read.Bytes.{Bytes}
-use Rattle.lines.specs.declared.read.Bytes.the-variants as bytes
+use Rattle.lines.specs.declared.words.Bytes.{Bytes}
+use Rattle.lines.specs.declared.words.Bytes.the-variants as bytes
 use Rattle.lines.specs.declared.write.Answer.{Answer}
 use Rattle.lines.specs.declared.write.Answer.the-variants as answer
 

@@ -6,10 +6,10 @@ use lib.Dec.{ltb, leb, eqb}
 use lib.ListN.{length, take, getD}
 use Rattle.lines.specs.Words.{firstOf, restOf, goesOn, numberOf, Given, none, these, givenOf, byteOf}
 use Rattle.lines.specs.Names.{imageName, bufferName, fieldName, frameName, parityName, startName, stopName, sendName, readName, ackName, nakName, eventName, showName, helpName}
-use Rattle.lines.specs.declared.read.Byte.{Byte}
-use Rattle.lines.specs.declared.read.Byte.the-variants as byte
-use Rattle.lines.specs.declared.read.Number.{Number}
-use Rattle.lines.specs.declared.read.Number.the-variants as number
+use Rattle.lines.specs.declared.words.Byte.{Byte}
+use Rattle.lines.specs.declared.words.Byte.the-variants as byte
+use Rattle.lines.specs.declared.words.Number.{Number}
+use Rattle.lines.specs.declared.words.Number.the-variants as number
 use Rattle.lines.specs.declared.read.Verb.{Verb}
 use Rattle.lines.specs.declared.read.Verb.the-variants as verb
 use Rattle.lines.specs.declared.read.Command.{Command}

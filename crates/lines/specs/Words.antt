@@ -4,12 +4,12 @@ use mathlib.Core.Bool.{Bool, true, false, cond, _&&_}
 use mathlib.Core.List.{List, [], _∷_}
 use lib.Dec.{ltb, leb, eqb}
 use lib.ListN.{length, take, drop, getD}
-use Rattle.lines.specs.declared.read.Number.{Number}
-use Rattle.lines.specs.declared.read.Number.the-variants as number
-use Rattle.lines.specs.declared.read.Byte.{Byte}
-use Rattle.lines.specs.declared.read.Byte.the-variants as byte
-use Rattle.lines.specs.declared.read.Bytes.{Bytes}
-use Rattle.lines.specs.declared.read.Bytes.the-variants as bytes
+use Rattle.lines.specs.declared.words.Number.{Number}
+use Rattle.lines.specs.declared.words.Number.the-variants as number
+use Rattle.lines.specs.declared.words.Byte.{Byte}
+use Rattle.lines.specs.declared.words.Byte.the-variants as byte
+use Rattle.lines.specs.declared.words.Bytes.{Bytes}
+use Rattle.lines.specs.declared.words.Bytes.the-variants as bytes
 
 -- ---- "Words are separated by exactly one space"
 

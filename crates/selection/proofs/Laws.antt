@@ -95,11 +95,11 @@ pub asks-above : (x : ℕ) → 0x20 ≤ x → 0x68 ≤ x → false ≡ asks x
 unfolding asks
 asks-above x l m = simp (le-leb 0x20 x l, lt-leb x 0x67 (omega arith))
 
-and-left : (a b : Bool) → (a && b) ≡ true → a ≡ true
+pub and-left : (a b : Bool) → (a && b) ≡ true → a ≡ true
 and-left true b e = refl
 and-left false b e = e
 
-and-right : (a b : Bool) → (a && b) ≡ true → b ≡ true
+pub and-right : (a b : Bool) → (a && b) ≡ true → b ≡ true
 and-right true b e = e
 and-right false b e = absurd (let z : _≡_ {A = ℕ} 0 1 = cc in omega arith)
 

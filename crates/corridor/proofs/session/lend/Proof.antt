@@ -1,5 +1,4 @@
 -- `corridor::session::lend` meets its contract. Assumes nothing.
-use borrow.Author.Needs.{needs}
 use Rattle.corridor.proofs.Laws.{lent-out}
 use Rattle.corridor.proofs.session.lend.Statement.{statement}
 use Rattle.corridor.proofs.session.lend.Tie as tie

@@ -1,8 +1,8 @@
--- `lines::read::hex_digit` meets its contract. Assumes nothing.
+-- `lines::words::hex_digit` meets its contract. Assumes nothing.
 use borrow.Author.Needs.{needs}
 use Rattle.lines.proofs.Reading.{hex-low, hex-digit, hex-mid, hex-capital, hex-between, hex-small, hex-high}
-use Rattle.lines.proofs.read.hex_digit.Statement.{statement}
-use Rattle.lines.proofs.read.hex_digit.Tie as tie
+use Rattle.lines.proofs.words.hex_digit.Statement.{statement}
+use Rattle.lines.proofs.words.hex_digit.Tie as tie
 
 pub hex-digit-spec : {M : Type 1} → statement M
 hex-digit-spec =

@@ -1,8 +1,8 @@
--- `lines::read::decimal_digit` meets its contract. Assumes nothing.
+-- `lines::words::decimal_digit` meets its contract. Assumes nothing.
 use borrow.Author.Needs.{needs}
 use Rattle.lines.proofs.Reading.{decs}
-use Rattle.lines.proofs.read.decimal_digit.Statement.{statement}
-use Rattle.lines.proofs.read.decimal_digit.Tie as tie
+use Rattle.lines.proofs.words.decimal_digit.Statement.{statement}
+use Rattle.lines.proofs.words.decimal_digit.Tie as tie
 
 pub decimal-digit-spec : {M : Type 1} → statement M
 decimal-digit-spec =
