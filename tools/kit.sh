@@ -24,12 +24,12 @@ is_new() {
 # Runs rt, which proves what it builds; what it says of each crate goes to standard error, and all of it where it fails.
 prove() {
     log=$(mktemp) || fail 'no temporary file could be made'
-    done=$(mktemp) || fail 'no temporary file could be made'
-    (cd "$root" && "$rt" "$@" </dev/null 2>&1 && echo yes >"$done") | tee "$log" | grep --line-buffered -E '^rt: ' >&2
-    if [ ! -s "$done" ]; then
+    proved=$(mktemp) || fail 'no temporary file could be made'
+    (cd "$root" && "$rt" "$@" </dev/null 2>&1 && echo yes >"$proved") | tee "$log" | grep --line-buffered -E '^rt: ' >&2 || true
+    if [ ! -s "$proved" ]; then
         cat "$log" >&2
-        rm -f "$log" "$done"
+        rm -f "$log" "$proved"
         fail "'rt $*' failed"
     fi
-    rm -f "$log" "$done"
+    rm -f "$log" "$proved"
 }
