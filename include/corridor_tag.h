@@ -9,9 +9,10 @@
  *     corridor_tag_record tag = corridor_field_off();
  *     corridor_bus_record bus = corridor_bus_at_rest();
  *
- * No call asks anything of its caller: whatever it is given, it answers, or it refuses with one of the CORRIDOR_REFUSED numbers and changes
- * nothing. No record is refused: numbers without a meaning count as after field loss, or as a bus at rest. No call allocates, waits, or
- * keeps a pointer. Pointers must not be null, also where a length is 0, and no two buffers may overlap.
+ * Whatever numbers and bytes a call is given, it answers, or it refuses with one of the CORRIDOR_REFUSED numbers and changes nothing. No
+ * record is refused: numbers without a meaning count as after field loss, or as a bus at rest. No call allocates, waits, or keeps a pointer.
+ * What the caller does answer for is memory: each pointer leads to as many bytes as its length says and isn't null, also where that is 0; no
+ * two buffers overlap; a bool is 0 or 1.
  *
  * Link target/staticlib/libcorridor_tag.a, which `make board` writes. It needs at most memcpy, memset and memmove of its host.
  */

@@ -137,7 +137,7 @@ pub record Line (text : List ℕ) (r : ℕ) (out : List ℕ) : Type 0 where
 
 -- ---- an answer and the buffers beside it
 
--- "bytes packed": a bit count has its bits rounded up to bytes
+-- "bits packed least significant first": so many bits take their number, rounded up to bytes
 abbrev pub bytesIn : ℕ → ℕ
 bytesIn n = (n + 7) / 8
 
