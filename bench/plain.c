@@ -418,51 +418,45 @@ corridor_bus_record plain_bus_at_rest(void)
     return bus;
 }
 
-/* "Stop stores the gathered bytes [..] except image bytes 0-9 and places past the window". Gives whether any were gathered. */
-static bool store_gathered(const corridor_bus_record *bus, uint8_t *image, unsigned pages)
+/* "Stop stores the gathered bytes [..] except image bytes 0-9 and places past the window" */
+static void store_gathered(const corridor_bus_record *bus, uint8_t *image, unsigned pages)
 {
     const unsigned base = (bus->counter & ~63u) - CORRIDOR_WINDOW; /* below the window it wraps round, far past the end */
-    bool any = false;
-    for (unsigned place = 0; place < 64; place++) {
-        if (bus->marks[place] == 0)
-            continue;
-        any = true;
+    for (unsigned k = 0; k < bus->held && k < 64; k++) {
+        const unsigned place = (bus->counter + k) & 63;
         if (base + place >= 10 && base + place < 4 * pages)
             image[base + place] = bus->bytes[place];
     }
-    return any;
 }
 
 /* "if any were gathered, the counter becomes the place after the last data byte, rolled within its page. The bus is then at rest." */
 static void bus_stop(corridor_bus_record *bus, uint8_t *image, unsigned pages)
 {
-    uint16_t counter = bus->counter;
-    if (bus->phase == CORRIDOR_WRITING && store_gathered(bus, image, pages))
-        counter = (uint16_t)((counter & ~63u) | (bus->next & 63u));
-    bus_becomes(bus, CORRIDOR_AT_REST, counter);
+    unsigned counter = bus->counter;
+    if (bus->phase == CORRIDOR_WRITING && bus->held > 0) {
+        store_gathered(bus, image, pages);
+        counter = (counter & ~63u) | ((counter + bus->held) & 63);
+    }
+    bus_becomes(bus, CORRIDOR_AT_REST, (uint16_t)counter);
 }
 
 /* "low acknowledged exactly if the address is in the window, setting the counter, else deaf with the counter kept" */
 static bool low_address_sent(corridor_bus_record *bus, unsigned pages, uint8_t low)
 {
-    const unsigned address = (unsigned)bus->high << 8 | low;
+    const unsigned address = (unsigned)bus->held << 8 | low;
     if (address - CORRIDOR_WINDOW >= 4 * pages) {
         bus_becomes(bus, CORRIDOR_DEAF, bus->counter);
         return false;
     }
     bus_becomes(bus, CORRIDOR_WRITING, (uint16_t)address);
-    bus->next = address & 63;
     return true;
 }
 
 /* "only the low six address bits advance, rolling over within the 64-byte page" */
 static void data_byte_sent(corridor_bus_record *bus, uint8_t byte)
 {
-    const unsigned place = bus->next & 63;
-    bus->marks[place] = 1;
-    bus->bytes[place] = byte;
-    bus->next = (place + 1) & 63;
-    bus->high = 0;
+    bus->bytes[(bus->counter + bus->held) & 63] = byte;
+    bus->held = bus->held < 127 ? bus->held + 1 : 64;
 }
 
 /* Gives whether the byte is acknowledged. */
@@ -474,7 +468,7 @@ static bool byte_sent(corridor_bus_record *bus, unsigned pages, uint8_t byte)
         return byte == 0xA0 || byte == 0xA1;
     case CORRIDOR_AWAITS_HIGH:
         bus_becomes(bus, CORRIDOR_AWAITS_LOW, bus->counter);
-        bus->high = byte;
+        bus->held = byte;
         return true;
     case CORRIDOR_AWAITS_LOW:
         return low_address_sent(bus, pages, byte);

@@ -14,10 +14,9 @@ HOLDS(tag_offsets, offsetof(corridor_tag_record, state) == 0 && offsetof(corrido
                        offsetof(corridor_tag_record, authenticated) == 2 && offsetof(corridor_tag_record, answered) == 3);
 HOLDS(answer_size, sizeof(corridor_answer) == 24);
 HOLDS(answer_offsets, offsetof(corridor_answer, refused) == 0 && offsetof(corridor_answer, bits) == 8 && offsetof(corridor_answer, left) == 16);
-HOLDS(bus_size, sizeof(corridor_bus_record) == 134);
-HOLDS(bus_offsets, offsetof(corridor_bus_record, phase) == 0 && offsetof(corridor_bus_record, counter) == 2 &&
-                       offsetof(corridor_bus_record, high) == 4 && offsetof(corridor_bus_record, next) == 5 &&
-                       offsetof(corridor_bus_record, marks) == 6 && offsetof(corridor_bus_record, bytes) == 70);
+HOLDS(bus_size, sizeof(corridor_bus_record) == 68);
+HOLDS(bus_offsets, offsetof(corridor_bus_record, phase) == 0 && offsetof(corridor_bus_record, held) == 1 &&
+                       offsetof(corridor_bus_record, counter) == 2 && offsetof(corridor_bus_record, bytes) == 4);
 HOLDS(bus_answer_size, sizeof(corridor_bus_answer) == 3);
 HOLDS(bus_answer_offsets, offsetof(corridor_bus_answer, refused) == 0 && offsetof(corridor_bus_answer, kind) == 1 &&
                               offsetof(corridor_bus_answer, value) == 2);
@@ -97,17 +96,17 @@ static void check_bus_record(void) {
     expect("corridor_bus_record.counter", held.counter, CORRIDOR_WINDOW);
 
     held.phase = CORRIDOR_AWAITS_LOW;
-    held.high = 0x40;
+    held.held = 0x40;
     corridor_bus_answer said = corridor_bus_event(&held, image, sizeof image, CORRIDOR_BYTE_SENT, 0x52);
     expect("corridor_bus_answer.kind", said.kind, CORRIDOR_ACKNOWLEDGE);
     expect("corridor_bus_answer.value", said.value, 1);
     expect("corridor_bus_record.counter after the address", held.counter, 0x4052);
-    expect("corridor_bus_record.next", held.next, 0x12);
+    expect("corridor_bus_record.held after the address", held.held, 0);
 
     corridor_bus_event(&held, image, sizeof image, CORRIDOR_BYTE_SENT, 0x77);
-    expect("corridor_bus_record.marks", held.marks[0x12], 1);
+    expect("corridor_bus_record.held after a data byte", held.held, 1);
     expect("corridor_bus_record.bytes", held.bytes[0x12], 0x77);
-    held.marks[63] = 9;
+    held.held = 64;
     held.bytes[63] = 0x99;
     corridor_bus_event(&held, image, sizeof image, CORRIDOR_STOP, 0);
     expect("the image after a stop", image[0x52], 0x77);

@@ -102,11 +102,9 @@ typedef struct {
 /* What the side of the two wires keeps between two events. */
 typedef struct {
     uint8_t phase;     /* CORRIDOR_AT_REST to CORRIDOR_DEAF */
+    uint8_t held;      /* the high address byte, until the low one comes; then how many data bytes came (127 is followed by 64) */
     uint16_t counter;  /* an address; while data bytes come, the address that was sent */
-    uint8_t high;      /* the high address byte, until the low one comes */
-    uint8_t next;      /* the place of the next data byte in its 64-byte page */
-    uint8_t marks[64]; /* not 0 where a data byte was gathered */
-    uint8_t bytes[64]; /* the gathered bytes */
+    uint8_t bytes[64]; /* the gathered bytes, each at its place of the 64-byte page */
 } corridor_bus_record;
 
 /* What an event is answered by. */

@@ -3,7 +3,7 @@ use mathlib.Core.Path.{_≡_, refl, ap, _∙_}
 use mathlib.Core.Logic.{inl, inr}
 use mathlib.Core.List.{List}
 use mathlib.Core.Bool.{Bool, true, false, cond}
-use Prim.Native.Nat.{ℕ, _+_, _-_, _*_, _≤_, _<_}
+use Prim.Native.Nat.{ℕ, _+_, _-_, _*_, _/_, _%_, _≤_, _<_}
 use native.Mathlib.Nat.{add-zero}
 use native.Mathlib.Omega.{arith}
 use lib.Bits.{bitXor}
@@ -108,13 +108,15 @@ pub bcc1-read : (img : List ℕ) (page : Four) → page ≡ pageAt img 1 → bit
 unfolding bcc1 uid pageAt
 bcc1-read img page e = rw e
 
-pub shown-stored : (n p k b : ℕ) (img : List ℕ) → p < n - 2 → b ≡ byte img p k → b ≡ shown n img p k
-unfolding shown
-shown-stored n p k b img l e = rw (lt-ltb p (n - 2) l) e
+pub shown-stored : (n o b : ℕ) (img : List ℕ) → o < 4 * (n - 2) → b ≡ getD img o 0 → b ≡ shown n img (o / 4) (o % 4)
+unfolding shown byte
+shown-stored n o b img l e =
+    let whole : 4 * (o / 4) + o % 4 ≡ o = omega arith in
+    rw (lt-ltb (o / 4) (n - 2) (omega arith), whole) e
 
-pub shown-zero : (n p k : ℕ) (img : List ℕ) → n - 2 ≤ p → 0 ≡ shown n img p k
+pub shown-zero : (n o : ℕ) (img : List ℕ) → 4 * (n - 2) ≤ o → 0 ≡ shown n img (o / 4) (o % 4)
 unfolding shown
-shown-zero n p k img l = rw (le-ltb p (n - 2) l)
+shown-zero n o img l = rw (le-ltb (o / 4) (n - 2) (omega arith))
 
 pub page-shown : (n p : ℕ) (img : List ℕ) (v : Four) → p < n - 2 → v ≡ pageAt img p → v ≡ shownPage n img p
 unfolding shownPage shown pageAt

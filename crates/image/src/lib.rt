@@ -1,6 +1,6 @@
 // What the bytes of an image are: sizes, regions, settings, UID, locks, shown bytes, page stores and the tail.
 ghost use mathlib.Core.Path.{_≡_};
-ghost use Prim.Native.Nat.{ℕ, _+_, _*_, _≤_, _<_};
+ghost use Prim.Native.Nat.{ℕ, _+_, _*_, _/_, _%_, _≤_, _<_};
 ghost use lib.ListN.{length};
 ghost use Rattle.locks.specs.Bits.{isSet};
 ghost use Rattle.locks.specs.Locks.{Sized};
@@ -176,16 +176,12 @@ pub fn bcc1(image: &[u8]) -> u8
     page.b0 ^ page.b1 ^ page.b2 ^ page.b3
 }
 
-// The byte that reading shows: zero in PWD and PACK, else the stored one.
-pub fn shown(image: &[u8], n: usize, page: usize, k: usize) -> u8
-    requires { ⌜ Fits n (now image) × (k < 4) ⌝ }
-    ensures { λ r. ⌜ r ≡ shown n (now (image .entry)) page k ⌝ }
+// Byte `at` of the image as reading shows it: zero in PWD and PACK, else the stored one.
+pub fn shown(image: &[u8], n: usize, at: usize) -> u8
+    requires { ⌜ Fits n (now image) ⌝ }
+    ensures { λ r. ⌜ r ≡ shown n (now (image .entry)) (at / 4) (at % 4) ⌝ }
 {
-    if page < n - 2 {
-        byte(image, page, k)
-    } else {
-        0
-    }
+    if at < 4 * (n - 2) { image[at] } else { 0 }
 }
 
 // The four bytes that reading shows of a page.

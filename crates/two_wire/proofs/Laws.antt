@@ -2,22 +2,22 @@
 use mathlib.Core.Path.{_≡_, refl, sym, ap, _∙_}
 use mathlib.Core.List.{List}
 use mathlib.Core.Bool.{Bool, true, false, cond, _&&_}
-use Prim.Native.Nat.{ℕ, zero, suc, _+_, _-_, _/_, _%_, _^_, _≤_, _<_}
+use Prim.Native.Nat.{ℕ, _+_, _*_, _/_, _%_, _^_, _≤_, _<_}
 use native.Mathlib.Numerals.{add-one}
 use native.Mathlib.Omega.{arith}
-use lib.Dec.{eqb, leb}
+use lib.Dec.{eqb, leb, ltb}
 use lib.ListN.{length, getD, set, length-set}
-use borrow.Author.Tests.{ne-eqb, eq-eqb, eqb-true, lt-leb, le-leb, leb-true}
+use borrow.Author.Tests.{ne-eqb, eq-eqb, eqb-true, lt-leb, le-leb, leb-true, leb-false, lt-ltb, le-ltb}
 use Rattle.image.specs.Layout.{Fits, sizeOf}
 use Rattle.image.specs.Shown.{shown}
 use Rattle.image.specs.declared.Size.{Size}
 use Rattle.image.specs.declared.Size.the-variants.{Pages, Unknown}
 use Rattle.image.proofs.Laws.{fits}
-use Rattle.two_wire.specs.Window.{first, last, inWindow, offset, pageOf, placeOf, nextPlace, readAt, following, byteAt}
-use Rattle.two_wire.specs.Record.{numberOf, phaseOf, idle, awaitsLow, writesAt}
+use Rattle.two_wire.specs.Window.{first, last, inWindow, offset, pageOf, placeAfter, readAt, following, byteAt}
+use Rattle.two_wire.specs.Record.{numberOf, phaseOf, idle, awaitsLow, oneMore}
 use Rattle.two_wire.specs.Answer.{answerOf, answered}
-use Rattle.two_wire.specs.Gathered.{markAt, anyTo, anyGathered, landedAt, landedTo, landed, counterAfter}
-use Rattle.two_wire.specs.Step.{device, addressed, sentIn, sent, readOn, readIn, read, keeping, after, started, rests, stoppedIn, stopped, refuses, byEvent, bySize, does, Did}
+use Rattle.two_wire.specs.Gathered.{gathered, landedAt, landedTo, landed, counterAfter}
+use Rattle.two_wire.specs.Step.{noByte, device, addressed, sentIn, sent, readOn, readIn, read, keeping, after, started, rests, stoppedIn, stopped, refuses, byEvent, bySize, does, Did}
 use Rattle.two_wire.specs.declared.BusAnswer.{BusAnswer}
 use Rattle.two_wire.specs.declared.BusRecord.{BusRecord}
 use Rattle.two_wire.specs.declared.BusStep.{BusStep}
@@ -57,26 +57,39 @@ answer-given reply a r e = rw e
 pub replies : (reply : Reply) (s : BusStep) (r r′ : BusRecord) → s ≡ answered reply r → r ≡ r′ → s ≡ answered reply r′
 replies reply s r r′ e f = rw (← f) e
 
--- two records that are made from one with nothing gathered
+-- the record that awaits the low address byte, made from one with nothing gathered
 pub low-awaited : (r : BusRecord) (counter h : ℕ) → r ≡ idle Low counter
-    → _≡_ {A = BusRecord} (record { phase = r .phase; counter = r .counter; high = h; next = r .next; marks = r .marks; bytes = r .bytes }) (awaitsLow counter h)
+    → _≡_ {A = BusRecord} (record { phase = r .phase; held = h; counter = r .counter; bytes = r .bytes }) (awaitsLow counter h)
 unfolding awaitsLow idle
-low-awaited r counter h e = ap (λ (x : BusRecord). record { phase = x .phase; counter = x .counter; high = h; next = x .next; marks = x .marks; bytes = x .bytes }) e
+low-awaited r counter h e = ap (λ (x : BusRecord). record { phase = x .phase; held = h; counter = x .counter; bytes = x .bytes }) e
 
-pub writing-at : (r : BusRecord) (a : ℕ) → r ≡ idle Writing a
-    → _≡_ {A = BusRecord} (record { phase = r .phase; counter = r .counter; high = r .high; next = a % 64; marks = r .marks; bytes = r .bytes }) (writesAt a)
-unfolding writesAt idle
-writing-at r a e = ap (λ (x : BusRecord). record { phase = x .phase; counter = x .counter; high = x .high; next = a % 64; marks = x .marks; bytes = x .bytes }) e
+-- what holds of the phase that a number stands for, by the numbers
+phase-by : (P : Phase → Type 0) (k : ℕ) → (k ≡ 1 → P Device) → (k ≡ 2 → P High) → (k ≡ 3 → P Low) → (k ≡ 4 → P Writing) → (k ≡ 5 → P Reading)
+    → (k ≡ 6 → P Deaf) → P Rest → P (phaseOf k)
+unfolding phaseOf
+phase-by P k one two three four five six else =
+    pick 1 Device _ (eqb k 1) refl one
+    (pick 2 High _ (eqb k 2) refl two
+    (pick 3 Low _ (eqb k 3) refl three
+    (pick 4 Writing _ (eqb k 4) refl four
+    (pick 5 Reading _ (eqb k 5) refl five
+    (pick 6 Deaf Rest (eqb k 6) refl six else)))))
+  where
+    pick : (m : ℕ) (p q : Phase) (t : Bool) → eqb k m ≡ t → (k ≡ m → P p) → P q → P (cond t p q)
+    pick m p q true e here later = here (eqb-true k m e)
+    pick m p q false e here later = later
 
 -- ---- the window
 
-pub below-window : (n a : ℕ) → a < first → false ≡ inWindow n a
+-- below the window x wraps round to above it
+pub window-tested : (n a x : ℕ) → 45 ≤ n → n ≤ 231 → x < 2 ^ 16 → (x + first) % 2 ^ 16 ≡ a → ltb x (4 * n) ≡ inWindow n a
 unfolding inWindow
-below-window n a l = simp (lt-leb first a l)
-
-pub from-window : (n a l : ℕ) → first ≤ a → l ≡ last n → leb a l ≡ inWindow n a
-unfolding inWindow
-from-window n a l h e = simp (le-leb first a h, e)
+window-tested n a x l m u e = by (leb first a) (leb a (last n)) refl refl
+  where
+    by : (s t : Bool) → leb first a ≡ s → leb a (last n) ≡ t → ltb x (4 * n) ≡ (s && t)
+    by true true p q = let f = leb-true first a p in let g = leb-true a (last n) q in lt-ltb x (4 * n) (omega arith)
+    by true false p q = let f = leb-true first a p in let g = leb-false a (last n) q in le-ltb x (4 * n) (omega arith)
+    by false t p q = let f = leb-false first a p in le-ltb x (4 * n) (omega arith)
 
 window-bounds : (n a : ℕ) → inWindow n a ≡ true → (first ≤ a) × (a ≤ last n)
 unfolding inWindow
@@ -103,9 +116,9 @@ module _ (n a : ℕ) (t : Bool) (e : t ≡ inWindow n a) (f : t ≡ true) where
       omega arith
 
 -- the byte wraps at 256, and 64 divides it
-pub place-next : (p x : ℕ) → x ≡ (p + 1) % 2 ^ 8 → x % 64 ≡ nextPlace p
-unfolding nextPlace
-place-next p x e = omega arith
+pub place-rolled : (a k low x : ℕ) → low ≡ a % 256 → x ≡ (low + k) % 2 ^ 8 → x % 64 ≡ placeAfter a k
+unfolding placeAfter
+place-rolled a k low x e f = omega arith
 
 -- ---- a byte sent
 
@@ -121,7 +134,7 @@ pub device-other : (r : BusRecord) (b : ℕ) (s : BusStep) → (b ≡ 0xA0 → �
 unfolding device
 device-other r b s d e h = rw (ne-eqb b 0xA0 d, ne-eqb b 0xA1 e) h
 
-pub address-in : (n a : ℕ) (r : BusRecord) (s : BusStep) (t : Bool) → t ≡ inWindow n a → t ≡ true → s ≡ answered Acknowledged (writesAt a) → s ≡ addressed n r a
+pub address-in : (n a : ℕ) (r : BusRecord) (s : BusStep) (t : Bool) → t ≡ inWindow n a → t ≡ true → s ≡ answered Acknowledged (idle Writing a) → s ≡ addressed n r a
 unfolding addressed
 address-in n a r s t e f h = rw (← e, f) h
 
@@ -138,77 +151,67 @@ sent-address n r s a a′ e f = rw (← f) e
 
 -- ---- the gathered bytes
 
-pub none-yet : (r : BusRecord) (j : ℕ) → anyTo r j ≡ false → markAt r j ≡ 0 → anyTo r (j + 1) ≡ false
-unfolding anyTo
-none-yet r j e m = rw (add-one j, m) e
+pub more-few : (k : ℕ) → k < 127 → k + 1 ≡ oneMore k
+unfolding oneMore
+more-few k l = rw (lt-ltb k 127 l)
 
-pub any-within : (r : BusRecord) (j k : ℕ) → j < k → (markAt r j ≡ 0 → ⊥) → anyTo r k ≡ true
-unfolding anyTo
-any-within r j zero l m = absurd (omega arith)
-any-within r j (suc k) l m = pick (eqb (markAt r k) 0) refl (λ h. any-within r j k h m)
-  where
-    pick : (t : Bool) → eqb (markAt r k) 0 ≡ t → (j < k → anyTo r k ≡ true) → cond t (anyTo r k) true ≡ true
-    pick false p below = refl
-    pick true p below =
-        let other : j ≡ k → ⊥ = λ q. m (rw q (eqb-true (markAt r k) 0 p)) in
-        below (omega (arith, other))
+pub more-many : (k : ℕ) → 127 ≤ k → 64 ≡ oneMore k
+unfolding oneMore
+more-many k l = rw (le-ltb k 127 l)
 
-pub any-here : (r : BusRecord) (j : ℕ) → j < 64 → (markAt r j ≡ 0 → ⊥) → true ≡ anyGathered r
-unfolding anyGathered
-any-here r j l m = sym (any-within r j 64 l m)
-
-pub none-left : (r : BusRecord) (j : ℕ) → anyTo r j ≡ false → j ≤ 64 → 64 ≤ j → false ≡ anyGathered r
-unfolding anyGathered
-none-left r j e l m = let q : j ≡ 64 = omega arith in rw q at (sym e)
-
-pub counter-moved : (r : BusRecord) (t : Bool) (p w : ℕ) → t ≡ anyGathered r → t ≡ true → p ≡ pageOf (r .counter) → w ≡ placeOf (r .next) → p + w ≡ counterAfter r
+pub counter-moved : (r : BusRecord) (page place wide : ℕ) → (r .held ≡ 0 → ⊥) → page ≡ pageOf (r .counter) → place ≡ placeAfter (r .counter) (r .held) → wide ≡ place
+    → page + wide ≡ counterAfter r
 unfolding counterAfter
-counter-moved r t p w e f g h = rw (← e, f, g, h)
+counter-moved r page place wide ne e f g = rw (ne-eqb (r .held) 0 ne, e, g, f)
 
-pub counter-kept : (r : BusRecord) (t : Bool) → t ≡ anyGathered r → t ≡ false → r .counter ≡ counterAfter r
+pub counter-kept : (r : BusRecord) → r .held ≡ 0 → r .counter ≡ counterAfter r
 unfolding counterAfter
-counter-kept r t e f = rw (← e, f)
+counter-kept r e = rw (eq-eqb (r .held) 0 e)
 
-module _ (n a m b : ℕ) (img : List ℕ) where
-  pub unmarked : m ≡ 0 → img ≡ landedAt n a m b img
+pub gathered-few : (r : BusRecord) → r .held < 64 → r .held ≡ gathered r
+unfolding gathered
+gathered-few r l = omega arith
+
+pub gathered-all : (r : BusRecord) → 64 ≤ r .held → 64 ≡ gathered r
+unfolding gathered
+gathered-all r l = omega arith
+
+module _ (n a b : ℕ) (img : List ℕ) where
+  module _ (t : Bool) (e : t ≡ inWindow n a) where
+    pub out-of-window : t ≡ false → img ≡ landedAt n a b img
+    unfolding landedAt
+    out-of-window f = rw (← e, f)
+
+    pub not-stored : (o : ℕ) → t ≡ true → o ≡ offset a → o < 10 → img ≡ landedAt n a b img
+    unfolding landedAt
+    not-stored o f g l = rw (← e, f, ← g, lt-leb 10 o l)
+
+    pub is-stored : (o : ℕ) → t ≡ true → o ≡ offset a → 10 ≤ o → set img o b ≡ landedAt n a b img
+    unfolding landedAt
+    is-stored o f g l = rw (← e, f, ← g, le-leb 10 o l)
+
+  pub length-landed-at : length (landedAt n a b img) ≡ length img
   unfolding landedAt
-  unmarked e = rw (eq-eqb m 0 e)
-
-  module _ (ne : m ≡ 0 → ⊥) (t : Bool) (e : t ≡ inWindow n a) where
-    pub out-of-window : t ≡ false → img ≡ landedAt n a m b img
-    unfolding landedAt
-    out-of-window f = rw (ne-eqb m 0 ne, ← e, f)
-
-    pub not-stored : (o : ℕ) → t ≡ true → o ≡ offset a → o < 10 → img ≡ landedAt n a m b img
-    unfolding landedAt
-    not-stored o f g l = rw (ne-eqb m 0 ne, ← e, f, ← g, lt-leb 10 o l)
-
-    pub is-stored : (o : ℕ) → t ≡ true → o ≡ offset a → 10 ≤ o → set img o b ≡ landedAt n a m b img
-    unfolding landedAt
-    is-stored o f g l = rw (ne-eqb m 0 ne, ← e, f, ← g, le-leb 10 o l)
-
-  pub length-landed-at : length (landedAt n a m b img) ≡ length img
-  unfolding landedAt
-  length-landed-at = pick (eqb m 0) (inWindow n a) (leb 10 (offset a))
+  length-landed-at = pick (inWindow n a) (leb 10 (offset a))
     where
-      pick : (s t u : Bool) → length (cond s img (cond t (cond u (set img (offset a) b) img) img)) ≡ length img
-      pick true t u = refl
-      pick false true true = length-set img (offset a) b
-      pick false true false = refl
-      pick false false u = refl
+      pick : (t u : Bool) → length (cond t (cond u (set img (offset a) b) img) img) ≡ length img
+      pick true true = length-set img (offset a) b
+      pick true false = refl
+      pick false u = refl
 
-pub fits-landed-at : (n a m b : ℕ) (img img′ : List ℕ) → Fits n img → img′ ≡ landedAt n a m b img → Fits n img′
-fits-landed-at n a m b img img′ f e =
-    record { size = f .size; least = f .least; most = f .most; whole = ap length e ∙ length-landed-at n a m b img ∙ f .whole }
+pub fits-landed-at : (n a b : ℕ) (img img′ : List ℕ) → Fits n img → img′ ≡ landedAt n a b img → Fits n img′
+fits-landed-at n a b img img′ f e =
+    record { size = f .size; least = f .least; most = f .most; whole = ap length e ∙ length-landed-at n a b img ∙ f .whole }
 
-pub landed-turn : (n j page : ℕ) (r : BusRecord) (img₀ img img′ : List ℕ) → img ≡ landedTo n r j img₀ → page ≡ pageOf (r .counter)
-    → img′ ≡ landedAt n (page + j) (markAt r j) (getD (r .bytes) j 0) img → img′ ≡ landedTo n r (j + 1) img₀
+pub landed-turn : (n k page place wide : ℕ) (r : BusRecord) (img₀ img img′ : List ℕ) → img ≡ landedTo n r k img₀ → page ≡ pageOf (r .counter)
+    → place ≡ placeAfter (r .counter) k → wide ≡ place → img′ ≡ landedAt n (page + wide) (getD (r .bytes) place 0) img → img′ ≡ landedTo n r (k + 1) img₀
 unfolding landedTo
-landed-turn n j page r img₀ img img′ e f g = rw (add-one j, ← e, ← f) g
+landed-turn n k page place wide r img₀ img img′ e f h w g = rw (add-one k, ← e, ← f, ← h) (rw w at g)
 
-pub landed-all : (n j : ℕ) (r : BusRecord) (img₀ img : List ℕ) → img ≡ landedTo n r j img₀ → j ≤ 64 → 64 ≤ j → img ≡ landed n r img₀
+pub landed-all : (n k count : ℕ) (r : BusRecord) (img₀ img : List ℕ) → img ≡ landedTo n r k img₀ → count ≡ gathered r → k ≤ count → count ≤ k
+    → img ≡ landed n r img₀
 unfolding landed
-landed-all n j r img₀ img e l m = let q : j ≡ 64 = omega arith in rw q at e
+landed-all n k count r img₀ img e f l m = let q : k ≡ gathered r = omega arith in rw q at e
 
 -- ---- a byte read
 
@@ -237,21 +240,37 @@ pub reads-on : (n a b k : ℕ) (img : List ℕ) (r i : BusRecord) (s : BusStep) 
 unfolding readOn
 reads-on n a b k img r i s p e f g h l = rw (← e, ← f, ← g, ← h) l
 
-pub read-by : (n : ℕ) (img : List ℕ) (r : BusRecord) (s : BusStep) (p q then : Phase) → p ≡ phaseOf (r .phase) → p ≡ q → s ≡ readIn q then n img r → s ≡ read then n img r
-unfolding read
-read-by n img r s p q then e f h = rw (← e, f) h
+-- the record's number is that of a phase
+in-phase : (r : BusRecord) (k : ℕ) (p : Phase) → k ≡ numberOf p → r .phase ≡ k → phaseOf (r .phase) ≡ p
+in-phase r k p e f = ap phaseOf (f ∙ e) ∙ phase-number p
 
--- ---- stop
+module _ (n k : ℕ) (img : List ℕ) (r : BusRecord) (s : BusStep) where
+  module _ (then : Phase) (e : k ≡ numberOf Reading) where
+    pub reading : r .phase ≡ k → s ≡ readOn then n img r → s ≡ read then n img r
+    unfolding read readIn
+    reading f h = rw (in-phase r k Reading e f) h
 
-pub stop-kept : (n : ℕ) (img : List ℕ) (r : BusRecord) (s : BusStep) (p q : Phase) → p ≡ phaseOf (r .phase) → p ≡ q → stoppedIn q n r ≡ keeping (rests r)
-    → s ≡ rests r → Did (stopped n r) s img img
-unfolding stopped after
-stop-kept n img r s p q e f g h = rw (← e, f, g) (record { step = h; image = refl })
+    pub not-reading : (r .phase ≡ k → ⊥) → s ≡ answered (Byte noByte) r → s ≡ read then n img r
+    unfolding read readIn numberOf
+    not-reading f h =
+        h ∙ sym (phase-by (λ q. readIn q then n img r ≡ answered (Byte noByte) r) (r .phase) (λ _. refl) (λ _. refl) (λ _. refl) (λ _. refl)
+        (λ p. absurd (f (p ∙ sym e))) (λ _. refl) refl)
 
-pub stop-stores : (n k : ℕ) (img img′ : List ℕ) (r i : BusRecord) (s : BusStep) (p : Phase) → p ≡ phaseOf (r .phase) → p ≡ Writing → img′ ≡ landed n r img
-    → k ≡ counterAfter r → i ≡ idle Rest k → s ≡ answered Nothing i → Did (stopped n r) s img img′
-unfolding stopped stoppedIn after
-stop-stores n k img img′ r i s p e f g h l m = rw (← e, f) (record { step = rw (← h, ← l) m; image = g })
+  -- ---- stop
+
+  module _ (e : k ≡ numberOf Writing) where
+    pub stop-kept : (r .phase ≡ k → ⊥) → s ≡ rests r → Did (stopped n r) s img img
+    unfolding stopped stoppedIn numberOf after
+    stop-kept f h =
+        let kept : stopped n r ≡ keeping (rests r) =
+        phase-by (λ q. stoppedIn q n r ≡ keeping (rests r)) (r .phase) (λ _. refl) (λ _. refl) (λ _. refl) (λ p. absurd (f (p ∙ sym e)))
+        (λ _. refl) (λ _. refl) refl in
+        rw kept (record { step = h; image = refl })
+
+    pub stop-stores : (img′ : List ℕ) (counter : ℕ) (i : BusRecord) → r .phase ≡ k → img′ ≡ landed n r img → counter ≡ counterAfter r → i ≡ idle Rest counter
+        → s ≡ answered Nothing i → Did (stopped n r) s img img′
+    unfolding stopped stoppedIn after
+    stop-stores img′ counter i f g h l m = rw (in-phase r k Writing e f) (record { step = rw (← h, ← l) m; image = g })
 
 -- ---- an event
 

@@ -65,7 +65,7 @@ sent-taken : (p : Phase) (n : ℕ) (r : BusRecord) (b : ℕ) → Taken (sentIn p
 unfolding sentIn device addressed answered answerOf
 sent-taken Device n r b = pick Taken (eqb b 0xA0) refl (pick Taken (eqb b 0xA1) refl refl)
 sent-taken High n r b = refl
-sent-taken Low n r b = pick Taken (inWindow n (address (r .high) b)) refl refl
+sent-taken Low n r b = pick Taken (inWindow n (address (r .held) b)) refl refl
 sent-taken Writing n r b = refl
 sent-taken Reading n r b = refl
 sent-taken Rest n r b = refl

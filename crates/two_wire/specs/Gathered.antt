@@ -1,40 +1,30 @@
 -- The gathered bytes: which they are, and where a stop stores them. Assumes nothing.
 use mathlib.Core.List.{List}
-use mathlib.Core.Bool.{Bool, true, false, cond}
-use Prim.Native.Nat.{ℕ, zero, suc, _+_}
+use mathlib.Core.Bool.{cond}
+use Prim.Native.Nat.{ℕ, zero, suc, _+_, min}
 use lib.Dec.{eqb, leb}
 use lib.ListN.{getD, set}
-use Rattle.two_wire.specs.Window.{inWindow, offset, places, pageOf, placeOf, firstStored}
+use Rattle.two_wire.specs.Window.{inWindow, offset, places, pageOf, placeAfter, firstStored}
 use Rattle.two_wire.specs.declared.BusRecord.{BusRecord}
 
-abbrev pub markAt : BusRecord → ℕ → ℕ
-markAt r j = getD (r .marks) j 0
+-- how many places are gathered, from the place of the address sent on
+unfoldable pub gathered : BusRecord → ℕ
+gathered r = min (r .held) places
 
--- whether one of the first k places is gathered
-unfoldable pub anyTo : BusRecord → ℕ → Bool
-anyTo r zero = false
-anyTo r (suc k) = cond (eqb (markAt r k) 0) (anyTo r k) true
+-- "Stop stores the gathered bytes .. except image bytes 0-9 and places past the window": a byte at address a
+unfoldable pub landedAt : ℕ → ℕ → ℕ → List ℕ → List ℕ
+landedAt n a b img = cond (inWindow n a) (cond (leb firstStored (offset a)) (set img (offset a) b) img) img
 
--- "if any were gathered"
-unfoldable pub anyGathered : BusRecord → Bool
-anyGathered r = anyTo r places
-
--- "Stop stores the gathered bytes .. except image bytes 0-9 and places past the window": a byte of mark m at address a
-unfoldable pub landedAt : ℕ → ℕ → ℕ → ℕ → List ℕ → List ℕ
-landedAt n a m b img =
-    cond (eqb m 0) img
-    (cond (inWindow n a)
-    (cond (leb firstStored (offset a)) (set img (offset a) b) img)
-    img)
-
--- the first k places of the page of the address sent
+-- the first k of them, in the page of the address sent
 unfoldable pub landedTo : ℕ → BusRecord → ℕ → List ℕ → List ℕ
 landedTo n r zero img = img
-landedTo n r (suc k) img = landedAt n (pageOf (r .counter) + k) (markAt r k) (getD (r .bytes) k 0) (landedTo n r k img)
+landedTo n r (suc k) img =
+    let place = placeAfter (r .counter) k in
+    landedAt n (pageOf (r .counter) + place) (getD (r .bytes) place 0) (landedTo n r k img)
 
 unfoldable pub landed : ℕ → BusRecord → List ℕ → List ℕ
-landed n r img = landedTo n r places img
+landed n r img = landedTo n r (gathered r) img
 
 -- "if any were gathered, the counter becomes the place after the last data byte, rolled within its page"
 unfoldable pub counterAfter : BusRecord → ℕ
-counterAfter r = cond (anyGathered r) (pageOf (r .counter) + placeOf (r .next)) (r .counter)
+counterAfter r = cond (eqb (r .held) 0) (r .counter) (pageOf (r .counter) + placeAfter (r .counter) (r .held))

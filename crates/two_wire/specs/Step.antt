@@ -9,7 +9,7 @@ use Rattle.image.specs.Layout.{sizeOf}
 use Rattle.image.specs.declared.Size.{Size}
 use Rattle.image.specs.declared.Size.the-variants.{Pages, Unknown}
 use Rattle.two_wire.specs.Window.{inWindow, readAt, following, byteAt}
-use Rattle.two_wire.specs.Record.{phaseOf, idle, awaitsLow, writesAt, gathers}
+use Rattle.two_wire.specs.Record.{phaseOf, idle, awaitsLow, gathers}
 use Rattle.two_wire.specs.Answer.{answered}
 use Rattle.two_wire.specs.Gathered.{landed, counterAfter}
 use Rattle.two_wire.specs.declared.BusRecord.{BusRecord}
@@ -70,7 +70,7 @@ device r b =
 
 -- "low acknowledged exactly if the address is in the window, setting the counter, else deaf with the counter kept"
 unfoldable pub addressed : ℕ → BusRecord → ℕ → BusStep
-addressed n r a = cond (inWindow n a) (answered Acknowledged (writesAt a)) (answered Declined (idle Deaf (r .counter)))
+addressed n r a = cond (inWindow n a) (answered Acknowledged (idle Writing a)) (answered Declined (idle Deaf (r .counter)))
 
 abbrev pub address : ℕ → ℕ → ℕ
 address h l = 256 * h + l
@@ -80,7 +80,7 @@ address h l = 256 * h + l
 unfoldable pub sentIn : Phase → ℕ → BusRecord → ℕ → BusStep
 sentIn Device n r b = device r b
 sentIn High n r b = answered Acknowledged (awaitsLow (r .counter) b)
-sentIn Low n r b = addressed n r (address (r .high) b)
+sentIn Low n r b = addressed n r (address (r .held) b)
 sentIn Writing n r b = answered Acknowledged (gathers r b)
 sentIn Reading n r b = answered Declined (idle Deaf (r .counter))
 sentIn Rest n r b = answered Declined r

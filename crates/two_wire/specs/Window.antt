@@ -29,9 +29,9 @@ pageOf a = a / places * places
 abbrev pub placeOf : ℕ → ℕ
 placeOf a = a % places
 
--- "only the low six address bits advance, rolling over within the 64-byte page"
-unfoldable pub nextPlace : ℕ → ℕ
-nextPlace p = placeOf (p + 1)
+-- "only the low six address bits advance, rolling over within the 64-byte page": the place of data byte k of a write to address a
+unfoldable pub placeAfter : ℕ → ℕ → ℕ
+placeAfter a k = placeOf (a + k)
 
 -- "image bytes 0-9" aren't stored from this side
 abbrev pub firstStored : ℕ

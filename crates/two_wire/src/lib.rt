@@ -2,10 +2,10 @@
 ghost use mathlib.Core.Path.{_≡_};
 ghost use Prim.Native.Nat.{_+_, _≤_, _<_};
 ghost use Rattle.image.specs.Layout.{Fits};
-ghost use Rattle.two_wire.specs.Window.{first, last, inWindow, offset, pageOf, nextPlace, readAt, following, byteAt};
-ghost use Rattle.two_wire.specs.Record.{numberOf, phaseOf, idle, atRest, awaitsLow, writesAt, gathers};
+ghost use Rattle.two_wire.specs.Window.{first, last, inWindow, offset, pageOf, placeAfter, readAt, following, byteAt};
+ghost use Rattle.two_wire.specs.Record.{numberOf, phaseOf, idle, atRest, awaitsLow, oneMore, gathers};
 ghost use Rattle.two_wire.specs.Answer.{answerOf, answered};
-ghost use Rattle.two_wire.specs.Gathered.{anyGathered, landedAt, landed, counterAfter};
+ghost use Rattle.two_wire.specs.Gathered.{gathered, landedAt, landed, counterAfter};
 ghost use Rattle.two_wire.specs.Step.{started, device, addressed, address, sent, rests, stopped, readOn, read, byEvent, does, Did};
 
 // The window's first address, and the first image byte that this side stores.
@@ -43,16 +43,14 @@ pub enum Phase {
     Deaf,
 }
 
-// The bus record, which the pin driver holds between two events: the number of its phase; the counter, an address, which is the address
-// sent while data bytes come; the high address byte until the low one comes; the place of the next data byte in the 64-byte page; and for
-// each place a mark, which isn't 0 where a byte was gathered, and the byte.
+// The bus record, which the pin driver holds between two events: the number of its phase; what the phase holds, which is the high address
+// byte until the low one comes, and then the count of data bytes; the counter, an address, which is the address sent while data bytes come;
+// and the gathered bytes, each at its place of the 64-byte page.
 #[repr(C)]
 pub struct BusRecord {
     pub phase: u8,
+    pub held: u8,
     pub counter: u16,
-    pub high: u8,
-    pub next: u8,
-    pub marks: [u8; 64],
     pub bytes: [u8; 64],
 }
 
@@ -151,14 +149,11 @@ fn answered(reply: Reply, bus: BusRecord) -> BusStep
 fn idle(phase: Phase, counter: u16) -> BusRecord
     ensures { λ r. ⌜ r ≡ idle phase counter ⌝ }
 {
-    let marks = [0u8; 64];
     let bytes = [0u8; 64];
     BusRecord {
         phase: number_of(phase),
+        held: 0,
         counter,
-        high: 0,
-        next: 0,
-        marks,
         bytes,
     }
 }
@@ -182,10 +177,8 @@ fn in_window(n: usize, address: u16) -> bool
     requires { ⌜ (45 ≤ n) × (n ≤ 231) ⌝ }
     ensures { λ r. ⌜ r ≡ inWindow n address ⌝ }
 {
-    if address < FIRST {
-        return false;
-    }
-    address <= last(n)
+    // Addresses below the window wrap round to above it, so that one test is enough.
+    std::num::wrapping_sub_u16(address, FIRST) < 4 * (n as u16)
 }
 
 // The image byte at an address of the window.
@@ -196,11 +189,12 @@ fn offset(address: u16) -> usize
     (address - FIRST) as usize
 }
 
-// The place after a place, rolling over within the 64-byte page.
-fn next_place(place: u8) -> u8
-    ensures { λ r. ⌜ r ≡ nextPlace place ⌝ }
+// The place of data byte k of a write to an address, rolling over within the 64-byte page.
+fn place_after(address: u16, k: u8) -> u8
+    ensures { λ r. ⌜ (r ≡ placeAfter address k) × (r < 64) ⌝ }
 {
-    std::num::wrapping_add_u8(place, 1) % 64
+    let low = (address % 256) as u8;
+    std::num::wrapping_add_u8(low, k) % 64
 }
 
 fn start(rec: BusRecord) -> BusStep
@@ -224,15 +218,7 @@ fn awaits_low(counter: u16, high: u8) -> BusRecord
     ensures { λ r. ⌜ r ≡ awaitsLow counter high ⌝ }
 {
     let mut rec = idle(Phase::Low, counter);
-    rec.high = high;
-    rec
-}
-
-fn writes_at(address: u16) -> BusRecord
-    ensures { λ r. ⌜ r ≡ writesAt address ⌝ }
-{
-    let mut rec = idle(Phase::Writing, address);
-    rec.next = (address % 64) as u8;
+    rec.held = high;
     rec
 }
 
@@ -241,7 +227,7 @@ fn take_address(n: usize, rec: BusRecord, address: u16) -> BusStep
     ensures { λ r. ⌜ r ≡ addressed n rec address ⌝ }
 {
     if in_window(n, address) {
-        answered(Reply::Acknowledged, writes_at(address))
+        answered(Reply::Acknowledged, idle(Phase::Writing, address))
     } else {
         answered(Reply::Declined, idle(Phase::Deaf, rec.counter))
     }
@@ -259,15 +245,25 @@ fn address(high: u8, low: u8) -> u16
     256 * wide(high) + wide(low)
 }
 
+// The count of data bytes after one more.
+fn one_more(count: u8) -> u8
+    ensures { λ r. ⌜ r ≡ oneMore count ⌝ }
+{
+    if count < 127 { count + 1 } else { 64 }
+}
+
 fn gathers(rec: BusRecord, byte: u8) -> BusRecord
     ensures { λ r. ⌜ r ≡ gathers rec byte ⌝ }
 {
-    let mut after = rec;
-    let place = (rec.next % 64) as usize;
-    after.marks[place] = 1;
-    after.bytes[place] = byte;
-    after.next = next_place(rec.next);
-    after
+    let mut bytes = rec.bytes;
+    let place = place_after(rec.counter, rec.held) as usize;
+    bytes[place] = byte;
+    BusRecord {
+        phase: rec.phase,
+        held: one_more(rec.held),
+        counter: rec.counter,
+        bytes,
+    }
 }
 
 // A byte sent.
@@ -279,26 +275,12 @@ fn take_byte(n: usize, rec: BusRecord, byte: u8) -> BusStep
     match phase {
         Phase::Device => take_device(rec, byte),
         Phase::High => answered(Reply::Acknowledged, awaits_low(rec.counter, byte)),
-        Phase::Low => take_address(n, rec, address(rec.high, byte)),
+        Phase::Low => take_address(n, rec, address(rec.held, byte)),
         Phase::Writing => answered(Reply::Acknowledged, gathers(rec, byte)),
         Phase::Reading => answered(Reply::Declined, idle(Phase::Deaf, rec.counter)),
         Phase::Rest => answered(Reply::Declined, rec),
         Phase::Deaf => answered(Reply::Declined, rec),
     }
-}
-
-// Whether a data byte was gathered.
-fn any_gathered(rec: BusRecord) -> bool
-    ensures { λ r. ⌜ r ≡ anyGathered rec ⌝ }
-{
-    let mut j: usize = 0;
-    while j < 64 {
-        if rec.marks[j] != 0 {
-            return true;
-        }
-        j += 1;
-    }
-    false
 }
 
 // The first address of the 64-byte page of an address.
@@ -311,21 +293,18 @@ fn page_of(address: u16) -> u16
 fn counter_after(rec: BusRecord) -> u16
     ensures { λ r. ⌜ r ≡ counterAfter rec ⌝ }
 {
-    if any_gathered(rec) {
-        page_of(rec.counter) + wide(rec.next % 64)
-    } else {
+    if rec.held == 0 {
         rec.counter
+    } else {
+        page_of(rec.counter) + wide(place_after(rec.counter, rec.held))
     }
 }
 
-// A byte of a place with this mark, stored at its address.
-fn land_at(image: &mut [u8], n: usize, address: u16, mark: u8, byte: u8)
+// A gathered byte, stored at its address.
+fn land_at(image: &mut [u8], n: usize, address: u16, byte: u8)
     requires { ⌜ Fits n (now image) ⌝ }
-    ensures { λ _. ⌜ now (image .exit) ≡ landedAt n address mark byte (now (image .entry)) ⌝ }
+    ensures { λ _. ⌜ now (image .exit) ≡ landedAt n address byte (now (image .entry)) ⌝ }
 {
-    if mark == 0 {
-        return;
-    }
     if in_window(n, address) {
         let at = offset(address);
         if FIRST_STORED <= at {
@@ -334,17 +313,25 @@ fn land_at(image: &mut [u8], n: usize, address: u16, mark: u8, byte: u8)
     }
 }
 
-// The gathered bytes, stored at the page of the address sent.
+// How many places are gathered.
+fn gathered(rec: BusRecord) -> u8
+    ensures { λ r. ⌜ (r ≡ gathered rec) × (r ≤ 64) ⌝ }
+{
+    if rec.held < 64 { rec.held } else { 64 }
+}
+
+// The gathered bytes, stored in the page of the address sent.
 fn land(image: &mut [u8], n: usize, rec: BusRecord)
     requires { ⌜ Fits n (now image) ⌝ }
     ensures { λ _. ⌜ now (image .exit) ≡ landed n rec (now (image .entry)) ⌝ }
 {
     let page = page_of(rec.counter);
-    let mut j: usize = 0;
-    while j < 64 {
-        let address = page + (j as u16);
-        land_at(image, n, address, rec.marks[j], rec.bytes[j]);
-        j += 1;
+    let count = gathered(rec);
+    let mut k: u8 = 0;
+    while k < count {
+        let place = place_after(rec.counter, k);
+        land_at(image, n, page + wide(place), rec.bytes[place as usize]);
+        k += 1;
     }
 }
 
@@ -359,18 +346,11 @@ fn stop(image: &mut [u8], n: usize, rec: BusRecord) -> BusStep
     requires { ⌜ Fits n (now image) ⌝ }
     ensures { λ r. ⌜ Did (stopped n rec) r (now (image .entry)) (now (image .exit)) ⌝ }
 {
-    let phase = phase_of(rec.phase);
-    match phase {
-        Phase::Writing => {
-            land(image, n, rec);
-            answered(Reply::Nothing, idle(Phase::Rest, counter_after(rec)))
-        }
-        Phase::Rest => rests(rec),
-        Phase::Device => rests(rec),
-        Phase::High => rests(rec),
-        Phase::Low => rests(rec),
-        Phase::Reading => rests(rec),
-        Phase::Deaf => rests(rec),
+    if rec.phase == number_of(Phase::Writing) {
+        land(image, n, rec);
+        answered(Reply::Nothing, idle(Phase::Rest, counter_after(rec)))
+    } else {
+        rests(rec)
     }
 }
 
@@ -403,8 +383,7 @@ fn byte_at(image: &[u8], n: usize, address: u16) -> u8
     requires { ⌜ Fits n (now image) × (first ≤ address) × (address ≤ last n) ⌝ }
     ensures { λ r. ⌜ r ≡ byteAt n (now (image .entry)) address ⌝ }
 {
-    let at = offset(address);
-    image::shown(image, n, at / 4, at % 4)
+    image::shown(image, n, offset(address))
 }
 
 // A byte read while the tag gives them; it then goes on in another phase.
@@ -422,15 +401,10 @@ fn read(image: &[u8], n: usize, rec: BusRecord, then: Phase) -> BusStep
     requires { ⌜ Fits n (now image) ⌝ }
     ensures { λ r. ⌜ r ≡ read then n (now (image .entry)) rec ⌝ }
 {
-    let phase = phase_of(rec.phase);
-    match phase {
-        Phase::Reading => read_on(image, n, rec, then),
-        Phase::Rest => answered(Reply::Byte(NO_BYTE), rec),
-        Phase::Device => answered(Reply::Byte(NO_BYTE), rec),
-        Phase::High => answered(Reply::Byte(NO_BYTE), rec),
-        Phase::Low => answered(Reply::Byte(NO_BYTE), rec),
-        Phase::Writing => answered(Reply::Byte(NO_BYTE), rec),
-        Phase::Deaf => answered(Reply::Byte(NO_BYTE), rec),
+    if rec.phase == number_of(Phase::Reading) {
+        read_on(image, n, rec, then)
+    } else {
+        answered(Reply::Byte(NO_BYTE), rec)
     }
 }
 

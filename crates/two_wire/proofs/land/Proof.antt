@@ -9,44 +9,17 @@ use Rattle.two_wire.proofs.land.Statement.{statement}
 use Rattle.two_wire.proofs.land.Tie as tie
 
 abbrev Inv-loop : tie.InvT-loop
-Inv-loop image₀ n rec page j₀ image j = (j ≤ 64) × (Fits n image) × (image ≡ landedTo n rec j image₀)
+Inv-loop image₀ n rec page count k₀ image k = (k ≤ count) × (Fits n image) × (image ≡ landedTo n rec k image₀)
 
 abbrev μ-loop : tie.MeasureT-loop
-μ-loop image₀ n rec page j₀ image j = 64 - j
-
-page-of-requires : tie.Need-page-of-requires Inv-loop μ-loop
-page-of-requires c κs = search needs
+μ-loop image₀ n rec page count k₀ image k = count - k
 
 loop-holds : tie.Need-loop-holds Inv-loop μ-loop
 unfolding landedTo
 loop-holds c = (search needs, search needs, refl)
 
-cast-address : tie.Need-cast-address Inv-loop μ-loop
-cast-address c = search needs
-
-add-address : tie.Need-add-address Inv-loop μ-loop
-add-address c = search needs
-
-element-copy-out-land-at : tie.Need-element-copy-out-land-at Inv-loop μ-loop
-element-copy-out-land-at c = search needs
-
-element-copy-out-land-at-2 : tie.Need-element-copy-out-land-at-2 Inv-loop μ-loop
-element-copy-out-land-at-2 c = search needs
-
-land-at-requires : tie.Need-land-at-requires Inv-loop μ-loop
-land-at-requires c κs = search needs
-
-add-j : tie.Need-add-j Inv-loop μ-loop
-add-j c = search needs
-
-loop-less : tie.Need-loop-less Inv-loop μ-loop
-loop-less c = search needs
-
 loop-again : tie.Need-loop-again Inv-loop μ-loop
 loop-again c = (search needs, search fits-landed-at, search landed-turn)
-
-same-length : tie.Need-same-length Inv-loop μ-loop
-same-length c = search needs
 
 returns : tie.Need-returns Inv-loop μ-loop
 returns c = search landed-all
@@ -57,15 +30,17 @@ land-spec =
     (tie.spec
     Inv-loop
     μ-loop
-    page-of-requires
+    (λ c κs. search needs)
+    (λ c κs. search needs)
     loop-holds
-    cast-address
-    add-address
-    element-copy-out-land-at
-    element-copy-out-land-at-2
-    land-at-requires
-    add-j
-    loop-less
+    (λ c κs. search needs)
+    (λ c κs. search needs)
+    (λ c. search needs)
+    (λ c. search needs)
+    (λ c. search needs)
+    (λ c κs. search needs)
+    (λ c. search needs)
+    (λ c. search needs)
     loop-again
-    same-length
+    (λ c. search needs)
     returns)
