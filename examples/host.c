@@ -1,13 +1,38 @@
 /* The host: start and end of a program, its output, its clock, and the three functions of memory that compiled code calls. */
 #include "host.h"
 
-enum { SYS_WRITE = 1, SYS_EXIT = 60, SYS_CLOCK_GETTIME = 228, STANDARD_OUTPUT = 1, CLOCK_MONOTONIC = 1 };
+#if defined(__x86_64__)
+
+enum { SYS_WRITE = 1, SYS_EXIT = 60, SYS_CLOCK_GETTIME = 228 };
 
 static long system_call(long number, long a, long b, long c) {
     long result;
     __asm__ volatile("syscall" : "=a"(result) : "a"(number), "D"(a), "S"(b), "d"(c) : "rcx", "r11", "memory");
     return result;
 }
+
+__asm__(".globl _start\n_start:\n    and $-16, %rsp\n    call host_start\n");
+
+#elif defined(__aarch64__)
+
+enum { SYS_WRITE = 64, SYS_EXIT = 93, SYS_CLOCK_GETTIME = 113 };
+
+static long system_call(long number, long a, long b, long c) {
+    register long x8 __asm__("x8") = number;
+    register long x0 __asm__("x0") = a;
+    register long x1 __asm__("x1") = b;
+    register long x2 __asm__("x2") = c;
+    __asm__ volatile("svc #0" : "+r"(x0) : "r"(x8), "r"(x1), "r"(x2) : "memory");
+    return x0;
+}
+
+__asm__(".globl _start\n_start:\n    bl host_start\n");
+
+#else
+#error "a host for x86-64 and aarch64"
+#endif
+
+enum { STANDARD_OUTPUT = 1, CLOCK_MONOTONIC = 1 };
 
 typedef uint64_t __attribute__((aligned(1), may_alias)) word;
 
@@ -84,5 +109,3 @@ uint64_t nanoseconds(void) {
 void host_start(void) {
     system_call(SYS_EXIT, program(), 0, 0);
 }
-
-__asm__(".globl _start\n_start:\n    and $-16, %rsp\n    call host_start\n");

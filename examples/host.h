@@ -1,4 +1,4 @@
-/* What the examples and the benchmark need of a host: they run on bare Linux for x86-64, without a C library. */
+/* What the examples and the benchmark need of a host: they run on bare Linux for x86-64 or aarch64, without a C library. */
 #ifndef HOST_H
 #define HOST_H
 
