@@ -42,8 +42,8 @@ fn refuses(image: &[u8], n: usize, tag: Tag, page: usize) -> bool
     match region {
         Region::Uid => true,
         Region::StaticLocks => false,
-        Region::Capability => image::is_locked(image, n, page),
-        Region::User => image::is_locked(image, n, page),
+        // One call for both: the compiler then puts it in line.
+        Region::Capability | Region::User => image::is_locked(image, n, page),
         Region::DynamicLocks => false,
         Region::Settings => image::settings_locked(image, n),
         Region::Password => false,

@@ -1,5 +1,8 @@
--- `commands::refuses` meets its contract. Assumes nothing.
+-- `commands::refuses` meets its contract. The arm of two regions goes by its two keys: 2 is `Capability`, 3 is `User`. Assumes nothing.
+use mathlib.Core.Logic.{⊎-elim}
 use borrow.Author.Needs.{needs}
+use borrow.Enum.Known.{lives-at}
+use Rattle.image.proofs.Region.{enum}
 use Rattle.commands.specs.Commands.{refusesIn}
 use Rattle.commands.proofs.Laws.{refuses-guarded, refuses-by}
 use Rattle.commands.proofs.refuses.Statement.{statement}
@@ -18,7 +21,12 @@ returns-3 c = search refuses-by
 
 returns-4 : tie.Need-returns-4
 unfolding refusesIn
-returns-4 c = search refuses-by
+returns-4 c =
+    let region = c .before .before .region-of .result in
+    ⊎-elim
+    (λ e. let capability = lives-at enum region 2 e .1 in search refuses-by)
+    (λ e. let user = lives-at enum region 3 e .1 in search refuses-by)
+    (c .before .match .keys3)
 
 returns-5 : tie.Need-returns-5
 unfolding refusesIn
@@ -36,10 +44,6 @@ returns-8 : tie.Need-returns-8
 unfolding refusesIn
 returns-8 c = search refuses-by
 
-returns-9 : tie.Need-returns-9
-unfolding refusesIn
-returns-9 c = search refuses-by
-
 pub refuses-spec : {M : Type 1} → statement M
 refuses-spec =
     tie.close
@@ -48,9 +52,6 @@ refuses-spec =
     returns
     (λ c κs. search needs)
     (λ c. search needs)
-    (λ c. search needs)
-    (λ c. search needs)
-    (λ c κs. search needs)
     (λ c. search needs)
     (λ c κs. search needs)
     (λ c. search needs)
@@ -64,5 +65,4 @@ refuses-spec =
     returns-5
     returns-6
     returns-7
-    returns-8
-    returns-9)
+    returns-8)
