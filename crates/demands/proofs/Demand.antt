@@ -2,12 +2,11 @@
 use mathlib.Core.Path.{_≡_, refl, sym, ap, _∙_}
 use mathlib.Core.List.{List, [], _∷_, _++_}
 use mathlib.Core.Bool.{Bool, true, false, not}
-use Prim.Native.Nat.{ℕ, _+_, _-_, _/_, _≤_, _<_}
+use Prim.Native.Nat.{ℕ, _≤_, _<_}
 use native.Mathlib.Nat.{le-refl, le-trans}
 use native.Mathlib.Omega.{arith}
-use lib.Dec.{eqb, leb}
+use lib.Dec.{leb}
 use lib.ListN.{length}
-use borrow.Author.Tests.{eqb-true}
 use Rattle.image.specs.declared.Four.{Four}
 use Rattle.image.specs.declared.Region.the-variants.{User}
 use Rattle.image.specs.declared.Size.{Size}
@@ -25,7 +24,8 @@ use Rattle.tag.specs.Outcome.{Effect, keep, put, apply, bitsOf}
 use Rattle.active.specs.Frame.{commandOf}
 use Rattle.radio.specs.declared.TagRecord.{TagRecord}
 use Rattle.radio.specs.Record.{tagOf, fieldLoss}
-use Rattle.radio.specs.Call.{Called, padded, isFrame, refusal, taken, calledAt, called}
+use Rattle.radio.specs.Call.{Called, isFrame, refusal, taken, calledAt, called}
+use Rattle.radio.proofs.Laws.{frame-whole}
 use Rattle.radio.proofs.Once.{read-again}
 use Rattle.demands.specs.Run.{Frame, Input, sent, lost, Call, ours, Board, fromOff, next, atEnd, imageAfter, acks, newFor, lastWritten, offers, noneOffers}
 use Rattle.demands.specs.Demand.{Meets2, Demand3, Holds, Keeps3}
@@ -40,12 +40,6 @@ record CallStep (n : ℕ) (img : List ℕ) (r : TagRecord) (f : Frame) (o : Call
   change : Change n img (tagOf r) (commandOf (f .bytes)) (o .reply) (o .effect)
   auth : authenticated (tagOf r) ≡ false → offers (pageAt img (pwdPage n)) f ≡ false → authenticated (tagOf (o .left)) ≡ false
 
-frame-whole : (f : List ℕ) (bits : ℕ) → isFrame f bits ≡ true → length f ≡ (bits + 7) / 8
-unfolding isFrame
-frame-whole f bits e =
-    let rest = and-right (leb bits 512) _ (and-right (leb 1 bits) _ e) in
-    eqb-true (length f) ((bits + 7) / 8) (and-left (eqb (length f) ((bits + 7) / 8)) (padded f bits) rest)
-
 refused-step : (n : ℕ) (img : List ℕ) (r : TagRecord) (f : Frame) (k : ℕ) → CallStep n img r f (refusal k r)
 unfolding refusal bitsOf
 refused-step n img r f k = record { change = kept refl (λ y a d w. never (sym y)); auth = λ a _. a }
@@ -56,7 +50,7 @@ call-step n img r f size =
     rw size
     (by (CallStep n img r f) (leb 1024 (f .room))
     (λ _. by (CallStep n img r f) (isFrame (f .bytes) (f .bits))
-    (λ e. let s = heard-step n img (tagOf r) (f .bytes) (f .bits) (f .parity) (f .room) (frame-whole (f .bytes) (f .bits) e) in
+    (λ e. let s = heard-step n img (tagOf r) (f .bytes) (f .bits) (f .parity) (f .room) (frame-whole (f .bytes) (f .bits) _ refl e) in
     record { change = s .change; auth = λ a q. rw read-again (s .auth a q) })
     (λ _. refused-step n img r f 3))
     (λ _. refused-step n img r f 2))

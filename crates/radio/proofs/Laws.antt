@@ -5,10 +5,10 @@ use mathlib.Core.Bool.{Bool, true, false}
 use Prim.Native.Nat.{ℕ, _+_, _*_, _/_, _%_, _^_, _≤_, _<_}
 use native.Mathlib.Nat.{div-lt-iff-lt-mul}
 use native.Mathlib.Omega.{arith}
-use lib.Dec.{eqb, ltb}
+use lib.Dec.{eqb, leb, ltb}
 use lib.ListN.{length, drop, getD, length-append, List·getD-eq-default}
 use lib.Pow.{pow-pos}
-use borrow.Author.Tests.{ltb-true, ltb-false, ne-eqb, eq-eqb, lt-ltb, le-ltb, le-leb, lt-leb}
+use borrow.Author.Tests.{ltb-true, ltb-false, eqb-true, ne-eqb, eq-eqb, lt-ltb, le-ltb, le-leb, lt-leb}
 use Rattle.image.specs.declared.Size.{Size}
 use Rattle.image.specs.declared.Size.the-variants.{Pages, Unknown}
 use Rattle.image.specs.Layout.{sizeOf, Fits}
@@ -21,6 +21,7 @@ use Rattle.tag.specs.declared.Step.{Step}
 use Rattle.tag.specs.State.{fieldOff}
 use Rattle.tag.specs.Outcome.{Reply, silence, nibble, bytes, plain, lowBytes, bitsOf, answerOf, over, apply, Did}
 use Rattle.tag.proofs.Laws.{length-with-crc, length-build}
+use Rattle.selection.proofs.Laws.{and-left, and-right}
 use Rattle.radio.specs.Record.{waitOf, stateOf, meant, tagOf, flagOf, waitNumber, recordIn, recordOf}
 use Rattle.radio.specs.Call.{heardIn, heard, padded, isFrame, refusal, taken, calledAt, called, Met}
 use Rattle.radio.specs.declared.TagRecord.{TagRecord}
@@ -120,6 +121,13 @@ module _ (f : List ℕ) (bits : ℕ) where
   pub frame-padded : (b : Bool) → 1 ≤ bits → bits ≤ 512 → length f ≡ (bits + 7) / 8 → b ≡ padded f bits → b ≡ isFrame f bits
   unfolding isFrame
   frame-padded b l m e h = rw (le-leb 1 bits l, le-leb bits 512 m, eq-eqb (length f) ((bits + 7) / 8) e) h
+
+  -- the byte count of a frame is the bits rounded up
+  pub frame-whole : (b : Bool) → b ≡ isFrame f bits → b ≡ true → length f ≡ (bits + 7) / 8
+  unfolding isFrame
+  frame-whole b e h =
+      let rest = and-right (leb bits 512) _ (and-right (leb 1 bits) _ (sym e ∙ h)) in
+      eqb-true (length f) ((bits + 7) / 8) (and-left (eqb (length f) ((bits + 7) / 8)) (padded f bits) rest)
 
 -- a refusal, for every image and buffer
 abbrev pub Refused : ℕ → TagRecord → Answer → Type 0

@@ -6,7 +6,7 @@ use tag::Tag;
 use tag::Wait;
 ghost use mathlib.Core.Path.{_≡_};
 ghost use mathlib.Core.List.{List};
-ghost use Prim.Native.Nat.{ℕ, _≤_, _<_};
+ghost use Prim.Native.Nat.{ℕ, _+_, _/_, _≤_, _<_};
 ghost use lib.ListN.{length};
 ghost use Rattle.image.specs.Layout.{Fits};
 ghost use Rattle.tag.specs.Outcome.{Did, Room};
@@ -150,7 +150,7 @@ fn hear(
     bits: usize,
     parity: bool,
 ) -> Step
-    requires { ⌜ Room n (now image) (now answer) ⌝ }
+    requires { ⌜ Room n (now image) (now answer) × (length (now frame) ≡ (bits + 7) / 8) ⌝ }
     ensures { λ r. ⌜ Did (heard n (now (image .entry)) tag (now (frame .entry)) bits parity) r (now (image .entry)) (now (image .exit)) (now (answer .entry)) (now (answer .exit)) ⌝ }
 {
     let state = tag.state;

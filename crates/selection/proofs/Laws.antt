@@ -8,6 +8,7 @@ use native.Mathlib.Nat.{mod-eq-of-lt, div-lt-iff-lt-mul}
 use native.Mathlib.Omega.{arith}
 use lib.Dec.{leb}
 use lib.ListN.{length, take, getD, List·getD-eq-default}
+use lib.Seq.{take-all}
 use lib.Pow.{pow-pos, pow-add, pow-lt}
 use borrow.Author.Tests.{ne-eqb, eq-eqb, leb-true, le-leb, lt-leb}
 use Rattle.crc_a.specs.CrcA.{crcRight, withCrc}
@@ -77,7 +78,11 @@ module _ (r a b c x : ℕ) where
   unfolding sent
   sent-read d f p q s t u h = h .0 ∙ rw (p, q, s, t, u)
 
-pub sent-whole : (r : ℕ) (f : List ℕ) → (r ≡ forty (getD f 2 0) (getD f 3 0) (getD f 4 0) (getD f 5 0) (getD f 6 0)) × (r < 2 ^ 40) → r ≡ sent f
+-- read from a frame that has them all
+abbrev pub Forty : ℕ → List ℕ → Type 0
+Forty r f = (r ≡ forty (getD f 2 0) (getD f 3 0) (getD f 4 0) (getD f 5 0) (getD f 6 0)) × (r < 2 ^ 40)
+
+pub sent-whole : (r : ℕ) (f : List ℕ) → Forty r f → r ≡ sent f
 unfolding sent
 sent-whole r f h = h .0
 
@@ -141,26 +146,33 @@ module _ (t : Tag) (f : List ℕ) (bits own n : ℕ) (r : Step) (e : n ≡ known
 
 -- ---- SELECT
 
+-- a frame of 72 bits is its first nine bytes
+all-nine : (f : List ℕ) (bits : ℕ) (k : Bool) → length f ≡ (bits + 7) / 8 → bits ≡ 72 → k ≡ crcRight (take 9 f) → k ≡ crcRight f
+all-nine f bits k l b c = rw (take-all 9 f (omega arith)) at c
+
 module _ (t : Tag) (f : List ℕ) (bits own sak : ℕ) (r : Step) where
   pub select-count : (bits ≡ 72 → ⊥) → Lost t r → (before : List ℕ) → DidAny (select t f bits own sak) r before before
   unfolding select
   select-count ne h before img = rw (ne-eqb bits 72 ne) (h img before)
 
-  pub select-other : (s : ℕ) → bits ≡ 72 → s ≡ sent f → (s ≡ own → ⊥) → Lost t r → (before : List ℕ) → DidAny (select t f bits own sak) r before before
+  pub select-other : (s : ℕ) → bits ≡ 72 → Forty s f → (s ≡ own → ⊥) → Lost t r → (before : List ℕ) → DidAny (select t f bits own sak) r before before
   unfolding select
-  select-other s b q ne h before img = rw (b, ← q, ne-eqb s own ne) (h img before)
+  select-other s b q ne h before img = rw (b, ← sent-whole s f q, ne-eqb s own ne) (h img before)
 
-  pub select-crc : (s : ℕ) (k : Bool) → bits ≡ 72 → s ≡ sent f → s ≡ own → k ≡ crcRight f → k ≡ false → Lost t r → (before : List ℕ) → DidAny (select t f bits own sak) r before before
+  pub select-crc : (s : ℕ) (k : Bool) → length f ≡ (bits + 7) / 8 → bits ≡ 72 → Forty s f → s ≡ own → k ≡ crcRight (take 9 f) → k ≡ false → Lost t r
+      → (before : List ℕ) → DidAny (select t f bits own sak) r before before
   unfolding select
-  select-crc s k b q e c d h before img = rw (b, ← q, eq-eqb s own e, ← c, d) (h img before)
+  select-crc s k l b q e c d h before img = rw (b, ← sent-whole s f q, eq-eqb s own e, ← all-nine f bits k l b c, d) (h img before)
 
 pub select-done : (t t′ : Tag) (f : List ℕ) (bits own sak : ℕ) (s count : ℕ) (k : Bool) (state : State) (before mid after : List ℕ)
-    → bits ≡ 72 → s ≡ sent f → s ≡ own → k ≡ crcRight f → k ≡ true → mid ≡ over (sak ∷ []) before → (count ≡ 8 * (1 + 2)) × (after ≡ over (withCrc (take 1 mid)) mid)
+    → length f ≡ (bits + 7) / 8 → bits ≡ 72 → Forty s f → s ≡ own → k ≡ crcRight (take 9 f) → k ≡ true
+    → mid ≡ over (sak ∷ []) before → (count ≡ 8 * (1 + 2)) × (after ≡ over (withCrc (take 1 mid)) mid)
     → state ≡ selected (t .state) → t′ ≡ moved t state → DidAny (select t f bits own sak) (record { bits = count; tag = t′ }) before after
 unfolding select apply
-select-done t t′ f bits own sak s count k state before mid after b q e c d em m g h img =
+select-done t t′ f bits own sak s count k state before mid after l b q e c d em m g h img =
     let a = answered (sak ∷ []) before mid after 1 count refl em m in
-    rw (b, ← q, eq-eqb s own e, ← c, d) (record { image = refl; bits = a .0; tag = h ∙ ap (moved t) g; answer = a .1 })
+    rw (b, ← sent-whole s f q, eq-eqb s own e, ← all-nine f bits k l b c, d)
+    (record { image = refl; bits = a .0; tag = h ∙ ap (moved t) g; answer = a .1 })
 
 -- ---- READY1 and READY2
 

@@ -99,7 +99,7 @@ fn own2(image: &[u8]) -> u64
     )
 }
 
-// The forty bits behind a frame's first two bytes; most frames have them all.
+// The forty bits behind a frame's first two bytes, by one test of its length where it has them all.
 fn sent(frame: &[u8]) -> u64
     ensures { λ r. ⌜ r ≡ sent (now (frame .entry)) ⌝ }
 {
@@ -158,16 +158,17 @@ fn anticollision(answer: &mut [u8], tag: Tag, frame: &[u8], bits: usize, n: usiz
 }
 
 fn select(answer: &mut [u8], tag: Tag, frame: &[u8], bits: usize, own: u64, sak: u8) -> Step
-    requires { ⌜ 1024 ≤ length (now answer) ⌝ }
+    requires { ⌜ (1024 ≤ length (now answer)) × (length (now frame) ≡ (bits + 7) / 8) ⌝ }
     ensures { λ r. ⌜ ((img : List ℕ) → Did (select tag (now (frame .entry)) bits own sak) r img img (now (answer .entry)) (now (answer .exit))) ⌝ }
 {
     if bits != 72 {
         return tag::lost(tag);
     }
-    if sent(frame) != own {
+    if forty(frame[2], frame[3], frame[4], frame[5], frame[6]) != own {
         return tag::lost(tag);
     }
-    if crc_a::is_right(frame) {
+    // All nine bytes, as a part whose length is written here: the compiler then unrolls the CRC_A.
+    if crc_a::is_right(&frame[0..9]) {
         let one = [sak];
         tag::lay(answer, &one);
         let bits = tag::finish(answer, 1);
@@ -191,7 +192,7 @@ fn ready(
     own: u64,
     sak: u8,
 ) -> Step
-    requires { ⌜ (1024 ≤ length (now answer)) × (own < 2 ^ 40) ⌝ }
+    requires { ⌜ (1024 ≤ length (now answer)) × (own < 2 ^ 40) × (length (now frame) ≡ (bits + 7) / 8) ⌝ }
     ensures { λ r. ⌜ ((img : List ℕ) → Did (inReady tag (now (frame .entry)) bits parity code own sak) r img img (now (answer .entry)) (now (answer .exit))) ⌝ }
 {
     if parity {
@@ -221,7 +222,7 @@ pub fn ready1(
     bits: usize,
     parity: bool,
 ) -> Step
-    requires { ⌜ (8 ≤ length (now image)) × (1024 ≤ length (now answer)) ⌝ }
+    requires { ⌜ (8 ≤ length (now image)) × (1024 ≤ length (now answer)) × (length (now frame) ≡ (bits + 7) / 8) ⌝ }
     ensures { λ r. ⌜ ((img : List ℕ) → Did (inReady1 (now (image .entry)) tag (now (frame .entry)) bits parity) r img img (now (answer .entry)) (now (answer .exit))) ⌝ }
 {
     ready(answer, tag, frame, bits, parity, 0x93, own1(image), 0x04)
@@ -236,7 +237,7 @@ pub fn ready2(
     bits: usize,
     parity: bool,
 ) -> Step
-    requires { ⌜ (8 ≤ length (now image)) × (1024 ≤ length (now answer)) ⌝ }
+    requires { ⌜ (8 ≤ length (now image)) × (1024 ≤ length (now answer)) × (length (now frame) ≡ (bits + 7) / 8) ⌝ }
     ensures { λ r. ⌜ ((img : List ℕ) → Did (inReady2 (now (image .entry)) tag (now (frame .entry)) bits parity) r img img (now (answer .entry)) (now (answer .exit))) ⌝ }
 {
     ready(answer, tag, frame, bits, parity, 0x95, own2(image), 0x00)

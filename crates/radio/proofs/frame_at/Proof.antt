@@ -1,11 +1,14 @@
 -- `radio::frame_at` meets its contract. Assumes nothing.
 use borrow.Author.Needs.{needs}
-use Rattle.radio.proofs.Laws.{call-narrow, call-done, call-unframed}
+use Rattle.radio.proofs.Laws.{frame-whole, call-narrow, call-done, call-unframed}
 use Rattle.radio.proofs.frame_at.Statement.{statement}
 use Rattle.radio.proofs.frame_at.Tie as tie
 
 returns : tie.Need-returns
 returns c = search call-narrow
+
+hear-requires : tie.Need-hear-requires
+hear-requires c κs = (search needs, search frame-whole)
 
 returns-2 : tie.Need-returns-2
 returns-2 c = search call-done
@@ -21,7 +24,7 @@ frame-at-spec =
     returns
     (λ c κs. search needs)
     (λ c κs. search needs)
-    (λ c κs. search needs)
+    hear-requires
     (λ c κs. search needs)
     (λ c κs. search needs)
     (λ c. search needs)
