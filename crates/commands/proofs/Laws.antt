@@ -1,5 +1,6 @@
 -- What each way through WRITE, GET_VERSION, READ_CNT, PWD_AUTH and HLTA shows. Assumes nothing.
 use mathlib.Core.Path.{_≡_, refl, sym, ap, _∙_}
+use mathlib.Core.Logic.{⊎-elim}
 use mathlib.Core.List.{List, [], _∷_}
 use mathlib.Core.Bool.{Bool, true, false, not, _||_, or-true}
 use Prim.Native.Nat.{ℕ, _+_, _*_, _-_, _≤_, _<_}
@@ -7,14 +8,19 @@ use native.Mathlib.Omega.{arith}
 use lib.Dec.{eqb, leb}
 use lib.ListN.{length, take, set}
 use lib.Seq.{set-split}
+use types.Run.{OneOf}
+use denote.Enum.Declared.{declared, tagOf}
+use borrow.Enum.Known.{lives-at}
 use borrow.Author.Tests.{leb-false, leb-true, ne-eqb, eq-eqb, le-leb, lt-leb}
 use Rattle.crc_a.specs.CrcA.{withCrc}
 use Rattle.image.specs.declared.Four.{Four}
 use Rattle.image.specs.declared.Region.{Region}
+use Rattle.image.specs.declared.Region.the-variants.{Capability, User}
 use Rattle.image.specs.Layout.{pageAt, store, regionOf}
 use Rattle.image.specs.Settings.{auth0, counterOn, counterGuarded, authlim}
-use Rattle.image.specs.Write.{write as stored}
+use Rattle.image.specs.Write.{locked, write as stored}
 use Rattle.image.specs.Tail.{failed, withFailed}
+use Rattle.image.proofs.Region.{enum}
 use Rattle.image.proofs.Laws.{outside}
 use Rattle.tag.specs.declared.State.{State}
 use Rattle.tag.specs.declared.Tag.{Tag}
@@ -49,13 +55,23 @@ module _ (n : ℕ) (img : List ℕ) (t : Tag) (p : ℕ) where
   unfolding refuses
   refuses-by b r region region′ e h f g q = rw (← e, h, ← f, g) q
 
+  -- in the regions 2 and 3
+  pub refuses-locked : (b r : Bool) (region : Region) → b ≡ underPassword n img t p → b ≡ false → region ≡ regionOf n p
+      → OneOf (2 ∷ 3 ∷ []) (tagOf (declared enum) region) → r ≡ locked n img p → r ≡ refuses n img t p
+  unfolding refusesIn
+  refuses-locked b r region e h f k q =
+      ⊎-elim
+      (λ i. refuses-by b r region Capability e h f (lives-at enum region 2 i .1) q)
+      (λ i. refuses-by b r region User e h f (lives-at enum region 3 i .1) q)
+      k
+
   -- a page that isn't refused is one of the n
-  pub not-refused : (b : Bool) → b ≡ refuses n img t p → b ≡ false → p ≤ n
+  pub not-refused : (b : Bool) → b ≡ refuses n img t p → b ≡ false → p < n
   unfolding refuses refusesIn
   not-refused b e h = pick (leb n p) refl
     where
-      pick : (s : Bool) → leb n p ≡ s → p ≤ n
-      pick false f = let l = leb-false n p f in omega arith
+      pick : (s : Bool) → leb n p ≡ s → p < n
+      pick false f = leb-false n p f
       pick true f =
           let q : true ≡ false = sym (or-true (underPassword n img t p)) ∙ ap (λ (r : Region). underPassword n img t p || refusesIn r n img p) (outside n p (leb-true n p f)) ∙ sym e ∙ h in
           let z : _≡_ {A = ℕ} 0 1 = cc in absurd (omega arith)

@@ -13,7 +13,7 @@ use Rattle.image.specs.declared.Size.the-variants.{Pages, Unknown}
 use Rattle.image.specs.Layout.{sizeOf}
 use Rattle.tag.specs.Outcome.{Reply, silence, nibble, bytes, plain, bitsOf, lowBytes, answerOf, over}
 use Rattle.tag.specs.State.{fieldOff}
-use Rattle.tag.proofs.Laws.{length-build, length-with-crc}
+use Rattle.tag.proofs.Laws.{answer-bytes}
 use Rattle.radio.specs.declared.TagRecord.{TagRecord}
 use Rattle.radio.specs.declared.Answer as radio
 use Rattle.radio.specs.Record.{recordOf, fieldLoss}
@@ -101,14 +101,6 @@ unfolding loses
 field-lost session tag e w img buf = record { within = record { size = w .size; lent = w .lent }; fits = tt; board = rw e; told = refl }
 
 -- ---- frames
-
--- an answer takes as many bytes as its bits, rounded up
-answer-bytes : (o : Reply) → length (answerOf o) ≡ bytesIn (bitsOf o)
-unfolding bitsOf answerOf lowBytes
-answer-bytes silence = refl
-answer-bytes (nibble v) = refl
-answer-bytes (bytes bs) = omega (arith, length-with-crc bs)
-answer-bytes (plain k v) = length-build _ _
 
 module _ (refused bits : ℕ) (c : Called) (buf : List ℕ) (e : refused ≡ c .refused) (f : bits ≡ bitsOf (c .reply)) where
   pub told-refused : (refused ≡ 0 → ⊥) → told.refused refused ≡ callTold c

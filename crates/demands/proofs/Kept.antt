@@ -22,6 +22,7 @@ use Rattle.tag.specs.declared.Tag.{Tag}
 use Rattle.tag.specs.State.{authenticated}
 use Rattle.tag.specs.Outcome.{Reply, Effect, apply}
 use Rattle.commands.specs.Commands.{underPassword, refusesIn, refuses}
+use Rattle.commands.proofs.Laws.{not-refused}
 use Rattle.active.specs.declared.Command.{Command}
 use Rattle.active.specs.declared.Command.the-variants.{Read, FastRead, Write, Version, Count, Auth, Hlta, Unknown}
 use Rattle.demands.specs.Run.{dataFor}
@@ -61,11 +62,6 @@ pub refuses-protected : (n : ℕ) (img : List ℕ) (t : Tag) (p : ℕ) → authe
 unfolding refuses underPassword
 refuses-protected n img t p a l = rw (le-leb (auth0 n img) p l, a)
 
--- a page that isn't refused is one of the n
-within : (n : ℕ) (img : List ℕ) (t : Tag) (p : ℕ) → refuses n img t p ≡ false → p < n
-unfolding refusesIn
-within n img t p h = split (leb n p) (λ e. never (sym (refused-in n img t p Outside (sym (outside n p (leb-true n p e))) refl) ∙ h)) (λ e. leb-false n p e)
-
 pub user-within : (n p : ℕ) → regionOf n p ≡ User → p < n
 user-within n p u = split (leb n p) (λ e. let o = outside n p (leb-true n p e) in let z : _≡_ {A = ℕ} 0 1 = cc in absurd (omega arith)) (λ e. leb-false n p e)
 
@@ -82,13 +78,13 @@ module _ (n : ℕ) (img : List ℕ) (t : Tag) (c : Command) (o : Reply) (e : Eff
   pub clears-none : Change n img t c o e → NoneCleared n img (apply img e)
   unfolding apply write
   clears-none (kept q y) = rw q (none-cleared-self n img)
-  clears-none (stored a d w r y q) = let l = within n img t a r in rw q (write-keeps n img fit a (omega arith) d)
+  clears-none (stored a d w r y q) = let l = not-refused n img t a _ refl r in rw q (write-keeps n img fit a (omega arith) d)
   clears-none (tailed v m y q) = let least = fit .least in rw q (store-keeps n img n v (λ z. omega arith) (λ z. omega arith) (λ z. omega arith))
 
   pub counter-after : Change n img t c o e → counter n img ≤ counter n (apply img e)
   unfolding apply counter
   counter-after (kept q y) = rw q (le-refl _)
-  counter-after (stored a d w r y q) = let l = within n img t a r in rw (q, page-other img a n (written n a (pageAt img a) d) (λ z. omega arith)) (le-refl _)
+  counter-after (stored a d w r y q) = let l = not-refused n img t a _ refl r in rw (q, page-other img a n (written n a (pageAt img a) d) (λ z. omega arith)) (le-refl _)
   counter-after (tailed v m y q) = let whole = fit .whole in rw (q, page-same img n v (omega arith)) m
 
   -- a user page holds what was acknowledged, else what it held
@@ -107,7 +103,7 @@ module _ (n : ℕ) (img : List ℕ) (t : Tag) (c : Command) (o : Reply) (e : Eff
       other Unknown f = refl
   user-after (stored a d w r y q) p u =
       rw (q, y, w) (split (eqb a p)
-      (λ h. let s = eqb-true a p h in let l = within n img t a r in let whole = fit .whole in
+      (λ h. let s = eqb-true a p h in let l = not-refused n img t a _ refl r in let whole = fit .whole in
       rw (h, s) (page-same img p (written n p (pageAt img p) d) (omega arith) ∙ replaced n p (pageAt img p) d u))
       (λ h. rw h (page-other img a p (written n a (pageAt img a) d) (λ z. eqb-false a p h (sym z)))))
   user-after (tailed v m y q) p u = let l = user-within n p u in rw (q, y) (page-other img n p v (λ z. omega arith))

@@ -1,7 +1,7 @@
 -- What each way through the questions shows, and the examples of the layout. Assumes nothing.
 use mathlib.Core.Path.{_≡_, refl, ap, _∙_}
-use mathlib.Core.Logic.{inl, inr}
-use mathlib.Core.List.{List}
+use mathlib.Core.Logic.{inl, inr, ⊎-elim}
+use mathlib.Core.List.{List, [], _∷_}
 use mathlib.Core.Bool.{Bool, true, false, cond}
 use Prim.Native.Nat.{ℕ, _+_, _-_, _*_, _/_, _%_, _≤_, _<_}
 use native.Mathlib.Nat.{add-zero}
@@ -9,15 +9,19 @@ use native.Mathlib.Omega.{arith}
 use lib.Bits.{bitXor}
 use lib.Dec.{eqb, ltb}
 use lib.ListN.{length, getD}
+use types.Run.{OneOf}
+use denote.Enum.Declared.{declared, tagOf}
+use borrow.Enum.Known.{lives-at}
 use borrow.Author.Tests.{eqb-true, ne-eqb, lt-ltb, le-ltb, lt-leb, le-leb}
 use Rattle.locks.specs.Bits.{row}
 use Rattle.locks.specs.Locks.{Sized, lockPage, lockedBy}
 use Rattle.locks.proofs.Lock.{sized-least, sized-most}
-use Rattle.image.specs.Layout.{sizeOf, Fits, byte, pageAt, firstSettings, pwdPage, regionOf, TheTable}
+use Rattle.image.specs.Layout.{sizeOf, Fits, byte, pageAt, store, firstSettings, pwdPage, regionOf, TheTable}
 use Rattle.image.specs.Uid.{uid, cascadeTag, bcc0, bcc1, UidExample}
 use Rattle.image.specs.Shown.{shown, shownPage}
-use Rattle.image.specs.Write.{statics, dynamics, locked, writtenIn, written}
+use Rattle.image.specs.Write.{statics, dynamics, locked, writtenIn, written, write}
 use Rattle.image.specs.Tail.{counterIn, nextCount, counted}
+use Rattle.image.proofs.Region.{enum}
 use Rattle.image.specs.declared.Four.{Four}
 use Rattle.image.specs.declared.Size.{Size}
 use Rattle.image.specs.declared.Size.the-variants.{Pages, Unknown}
@@ -133,9 +137,29 @@ locked-read n p lo hi img s d b e f g h k = rw (← ap (λ (q : Four). row (q .b
 
 -- ---- what a WRITE leaves at its page
 
-pub written-by : (n p : ℕ) (old d r : Four) (region region′ : Region) → region ≡ regionOf n p → region ≡ region′ → r ≡ writtenIn region′ n old d → r ≡ written n p old d
-unfolding written
-written-by n p old d r region region′ e f h = rw (← e, f) h
+pub write-by : (n p : ℕ) (img img′ : List ℕ) (old d after : Four) (region region′ : Region) → old ≡ pageAt img p → region ≡ regionOf n p → region ≡ region′
+    → after ≡ writtenIn region′ n old d → img′ ≡ store img p after → img′ ≡ write n img p d
+unfolding write written
+write-by n p img img′ old d after region region′ e f g h k = rw (← f, g, ← e, ← h) k
+
+-- in the regions 0, 3, 5, 6 and 7
+pub write-replaces : (n p : ℕ) (img img′ : List ℕ) (d : Four) (region : Region) → region ≡ regionOf n p
+    → OneOf (0 ∷ 3 ∷ 5 ∷ 6 ∷ 7 ∷ []) (tagOf (declared enum) region) → img′ ≡ store img p d → img′ ≡ write n img p d
+unfolding writtenIn
+write-replaces n p img img′ d region e k h =
+    ⊎-elim
+    (λ t. by Uid (λ old. refl) (lives-at enum region 0 t .1))
+    (⊎-elim
+    (λ t. by User (λ old. refl) (lives-at enum region 3 t .1))
+    (⊎-elim
+    (λ t. by Settings (λ old. refl) (lives-at enum region 5 t .1))
+    (⊎-elim
+    (λ t. by Password (λ old. refl) (lives-at enum region 6 t .1))
+    (λ t. by Outside (λ old. refl) (lives-at enum region 7 t .1)))))
+    k
+  where
+    by : (region′ : Region) → ((old : Four) → d ≡ writtenIn region′ n old d) → region ≡ region′ → img′ ≡ write n img p d
+    by region′ same f = write-by n p img img′ (pageAt img p) d d region region′ refl e f (same (pageAt img p)) h
 
 pub replaced : (n p : ℕ) (old d : Four) → regionOf n p ≡ User → written n p old d ≡ d
 unfolding written writtenIn

@@ -264,24 +264,6 @@ fn dynamics_written(n: usize, old: Four, d: Four) -> Four
     }
 }
 
-// What a page holds after a WRITE of d, having held old.
-fn written(n: usize, page: usize, old: Four, d: Four) -> Four
-    requires { ⌜ Sized n ⌝ }
-    ensures { λ r. ⌜ r ≡ written n page old d ⌝ }
-{
-    let region = region_of(n, page);
-    match region {
-        Region::StaticLocks => statics_written(old, d),
-        Region::Capability => capability_written(old, d),
-        Region::DynamicLocks => dynamics_written(n, old, d),
-        Region::Uid => d,
-        Region::User => d,
-        Region::Settings => d,
-        Region::Password => d,
-        Region::Outside => d,
-    }
-}
-
 // The page writer: the four bytes of a page are lent to it.
 fn put(page: &mut [u8], v: Four)
     requires { ⌜ length (now page) ≡ 4 ⌝ }
@@ -305,12 +287,19 @@ pub fn store(image: &mut [u8], page: usize, v: Four)
 
 // What a WRITE of d that isn't refused does.
 pub fn write(image: &mut [u8], n: usize, page: usize, d: Four)
-    requires { ⌜ Fits n (now image) × (page ≤ n) ⌝ }
+    requires { ⌜ Fits n (now image) × (page < n) ⌝ }
     ensures { λ _. ⌜ now (image .exit) ≡ write n (now (image .entry)) page d ⌝ }
 {
     let old = page_at(image, page);
-    let after = written(n, page, old, d);
-    store(image, page, after);
+    let region = region_of(n, page);
+    match region {
+        Region::StaticLocks => store(image, page, statics_written(old, d)),
+        Region::Capability => store(image, page, capability_written(old, d)),
+        Region::DynamicLocks => store(image, page, dynamics_written(n, old, d)),
+        Region::Uid | Region::User | Region::Settings | Region::Password | Region::Outside => {
+            store(image, page, d)
+        }
+    }
 }
 
 // The failed-password count.

@@ -1,7 +1,7 @@
 -- One bit of a number: how `|` and `&` act on it, and a number from its bits. Assumes nothing.
 use mathlib.Core.Path.{_≡_, refl, sym, ap, ap₂, _∙_}
 use Prim.Native.Nat.{ℕ, zero, suc, suc-le-suc, _+_, _-_, _*_, _/_, _%_, _^_, _≤_, _<_, min, max}
-use native.Mathlib.Nat.{not-suc-le-zero, le-of-suc-le-suc, zero-lt-suc, add-zero, sub-self, lt-of-lt-of-le}
+use native.Mathlib.Nat.{not-suc-le-zero, le-of-suc-le-suc, zero-lt-suc, add-zero, lt-of-lt-of-le}
 use native.Mathlib.Omega.{arith}
 use native.Mathlib.Numerals.{one-add}
 use lib.Pow.{shr-shr, pow-mono}
@@ -76,16 +76,17 @@ ofBits-zeros (suc k) (suc m) f g l same none =
 pub row-bytes : (x : ℕ) → row (x % 256) (x / 256) ≡ x
 row-bytes x = omega arith
 
--- ---- a number gathered bit by bit from the top down: bits j and up of f's n
+-- ---- a number gathered from the top down, two bits at a time that are both x: bits 2 * i and up of f's n
 
-pub gathered-none : (n : ℕ) (f : ℕ → ℕ) → 0 ≡ ofBits (n - n) f
-gathered-none n f = rw (sub-self n)
+pub gathered-none : (n j : ℕ) (f : ℕ → ℕ) → j ≡ n → 0 ≡ ofBits (n - j) f
+gathered-none n j f h = let e : n - j ≡ 0 = omega arith in rw e
 
-pub gathered-more : (f : ℕ → ℕ) (n j : ℕ) → 0 < j → j ≤ n → f (j - 1) + 2 * ofBits (n - j) (λ i. f (j + i)) ≡ ofBits (n - (j - 1)) (λ i. f (j - 1 + i))
-gathered-more f n j h l =
-    let e : n - (j - 1) ≡ suc (n - j) = omega arith in
-    sym (ap (λ (k : ℕ). ofBits k (λ i. f (j - 1 + i))) e
-    ∙ ap₂ (λ (x y : ℕ). x + 2 * y) (ap f (add-zero (j - 1))) (ofBits-cong (n - j) (λ i. f (j - 1 + suc i)) (λ i. f (j + i)) (λ i l. ap f (omega arith))))
+pub gathered-more : (f : ℕ → ℕ) (n i x : ℕ) → 0 < i → 2 * i ≤ n → x ≡ f (2 * (i - 1)) → x ≡ f (2 * (i - 1) + 1)
+    → 3 * x + 4 * ofBits (n - 2 * i) (λ k. f (2 * i + k)) ≡ ofBits (n - 2 * (i - 1)) (λ k. f (2 * (i - 1) + k))
+gathered-more f n i x h l low high =
+    let e : n - 2 * (i - 1) ≡ suc (suc (n - 2 * i)) = omega arith in
+    let above = ofBits-cong (n - 2 * i) (λ k. f (2 * (i - 1) + suc (suc k))) (λ k. f (2 * i + k)) (λ k b. ap f (omega arith)) in
+    rw e (omega (arith, ap f (add-zero (2 * (i - 1)))))
 
 pub gathered-all : (f : ℕ → ℕ) (n j : ℕ) → j ≡ 0 → ofBits (n - j) (λ i. f (j + i)) ≡ ofBits n f
 gathered-all f n j z =

@@ -3,7 +3,7 @@
 use mathlib.Core.Path.{_≡_, _∙_, refl, sym, ap, subst}
 use mathlib.Core.Logic.{_⊎_, ⊎-elim}
 use mathlib.Core.Bool.{Bool, true, false, cond, _&&_}
-use Prim.Native.Nat.{ℕ, _+_, _-_, _/_, _≤_, _<_}
+use Prim.Native.Nat.{ℕ, _+_, _-_, _*_, _/_, _%_, _≤_, _<_}
 use native.Mathlib.Omega.{arith}
 use lib.Dec.{leb, ltb, eqb}
 use borrow.Author.Tests.{ltb-true, eqb-true, eq-eqb, lt-ltb, le-ltb, le-leb, lt-leb}
@@ -11,6 +11,7 @@ use Rattle.locks.specs.Bits.{bitAt, isSet, Gains, ofBits}
 use Rattle.locks.specs.Locks.{Sized, lockPage, lockBits, pagesEach, dynamicBlock, lockOf, setIn, lockedBy, clearAt, mayDynamic}
 use Rattle.locks.specs.Table.{firstPage, lastPage, blockBit, rowFor, rowAt, firstRow, Covers, mayRow}
 use Rattle.locks.proofs.Bits.{ofBits-zeros}
+use Rattle.locks.proofs.Table.{agree}
 use Rattle.locks.specs.declared.Row.{Row}
 use Rattle.locks.specs.declared.LockBit.{LockBit}
 use Rattle.locks.specs.declared.LockBit.the-variants.{Static, Dynamic, Absent}
@@ -67,6 +68,22 @@ block-lt k r h e = rw e (pick (ltb k 12) (ltb k 20) refl refl)
     pick true t p q = let l = ltb-true k 12 p in omega arith
     pick false true p q = let l = ltb-true k 20 q in omega arith
     pick false false p q = omega arith
+
+-- "bit k blocks lock bits 2k and 2k+1"
+same-block : (k : ℕ) → k % 2 ≡ 0 → k < 34 → blockBit (rowAt k) ≡ blockBit (rowAt (k + 1))
+unfolding rowAt rowFor dynamicBlock
+same-block k even l =
+    let e : 2 * (k / 2) ≡ k = omega arith in
+    rw e at (agree (λ h. blockBit (rowAt (2 * h))) (λ h. blockBit (rowAt (2 * h + 1))) 17 (k / 2) refl (omega arith))
+
+-- so the two may be set alike, by the row of the first
+pub pair-may : (r : Row) (start blocks i x : ℕ) → r ≡ rowAt (start + 2 * i) → start % 2 ≡ 0 → start + 2 * i < 34 → x ≡ clearAt blocks (blockBit r)
+    → (x ≡ mayRow start blocks (2 * i)) × (x ≡ mayRow start blocks (2 * i + 1))
+unfolding mayRow
+pair-may r start blocks i x e even l h =
+    let low = h ∙ ap (λ (r : Row). clearAt blocks (blockBit r)) e in
+    let next : start + 2 * i + 1 ≡ start + (2 * i + 1) = omega arith in
+    (low, low ∙ ap (clearAt blocks) (rw next at (same-block (start + 2 * i) (omega arith) l)))
 
 lockBits≤16 : (n : ℕ) → lockBits n ≤ 16
 unfolding lockBits

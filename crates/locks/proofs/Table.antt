@@ -22,3 +22,7 @@ module _ {A : Type 0} (rule : ℕ → A) where
   -- of a copy of the table
   pub copy-at : (table : List A) (n i : ℕ) (other : A) → table ≡ rows 0 n → i < n → getD table i other ≡ rule i
   copy-at table n i other e h = rw e (at n i other h)
+
+-- two rules that make the same table agree on it
+pub agree : {A : Type 0} (f g : ℕ → A) (n i : ℕ) → rows f 0 n ≡ rows g 0 n → i < n → f i ≡ g i
+agree f g n i e h = sym (at f n i (f 0) h) ∙ copy-at g (rows f 0 n) n i (f 0) e h

@@ -1,6 +1,6 @@
 // The two kinds of locks as numbers: which bit locks a page, and which bits a WRITE sets.
 ghost use mathlib.Core.Path.{_≡_};
-ghost use Prim.Native.Nat.{_+_, _-_, _/_, _≤_, _<_};
+ghost use Prim.Native.Nat.{_+_, _-_, _/_, _%_, _≤_, _<_};
 ghost use Rattle.locks.specs.Bits.{isSet, ofBits};
 ghost use Rattle.locks.specs.Locks.{Sized, lockBits, pagesEach, lockOf, lockedBy, clearAt, mayStatic, staticGain, mayDynamic, dynamicGain, mayBlock, blockGain};
 ghost use Rattle.locks.specs.Table.{rowAt, firstRow, mayRow};
@@ -12,8 +12,8 @@ pub enum LockBit {
     Absent,
 }
 
-// First page, last page and block bit of a dynamic lock bit.
-pub struct Row(pub u8, pub u8, pub u8);
+// First page, last page and block bit of a dynamic lock bit. In four bytes, so that the compiler moves rows by the word.
+pub struct Row(pub u8, pub u8, pub u16);
 
 // "N=45: twelve bits, two pages each"; "N=135: eight bits, sixteen each, the last only 128-129"; "N=231: fourteen bits, sixteen each,
 // the last only 224-225".
@@ -61,7 +61,7 @@ fn row_at(k: usize) -> Row
     TABLE[k]
 }
 
-// Where the rows of a size begin, and how many they are.
+// Where the rows of a size begin, and how many they are. Both are even, so that the two lock bits of a block bit stand in one pair.
 struct Rows {
     start: usize,
     count: usize,
@@ -69,6 +69,7 @@ struct Rows {
 
 fn rows_of(n: usize) -> Rows
     ensures { λ r. ⌜ (r .start ≡ firstRow n) × (r .count ≡ lockBits n) × (r .start + r .count ≤ 34) × (r .count ≤ 14) ⌝ }
+    ensures pairs { λ r. ⌜ (r .start % 2 ≡ 0) × (r .count % 2 ≡ 0) ⌝ }
 {
     match n {
         45 => Rows {
@@ -167,19 +168,20 @@ fn static_mask(statics: u16) -> u16
     0x0007 + 0x0008 * clear(statics, 0) + 0x03F0 * clear(statics, 1) + 0xFC00 * clear(statics, 2)
 }
 
-// The bits of these rows that a WRITE may set: those whose row names a block bit that is clear.
+// The bits of these rows that a WRITE may set: those whose row names a block bit that is clear. Two rows at a time, since
+// "bit k blocks lock bits 2k and 2k+1".
 fn row_mask(start: usize, count: usize, blocks: u16) -> u16
-    requires { ⌜ (start + count ≤ 34) × (count ≤ 14) ⌝ }
+    requires { ⌜ (start + count ≤ 34) × (count ≤ 14) × (start % 2 ≡ 0) × (count % 2 ≡ 0) ⌝ }
     ensures { λ r. ⌜ r ≡ ofBits count (mayRow start blocks) ⌝ }
 {
     // Copied once, where row_at would copy it at each turn.
     let table = TABLE;
     let mut mask: u16 = 0;
-    let mut i = count;
+    let mut i = count / 2;
     while 0 < i {
         i -= 1;
-        let row = table[start + i];
-        mask = clear(blocks, row.2 as usize) + 2 * mask;
+        let row = table[start + 2 * i];
+        mask = 3 * clear(blocks, row.2 as usize) + 4 * mask;
     }
     mask
 }

@@ -20,7 +20,7 @@ use Rattle.tag.specs.declared.Tag.{Tag}
 use Rattle.tag.specs.declared.Step.{Step}
 use Rattle.tag.specs.State.{fieldOff}
 use Rattle.tag.specs.Outcome.{Reply, silence, nibble, bytes, plain, lowBytes, bitsOf, answerOf, over, apply, Did}
-use Rattle.tag.proofs.Laws.{length-with-crc, length-build}
+use Rattle.tag.proofs.Laws.{answer-bytes}
 use Rattle.selection.proofs.Laws.{and-left, and-right}
 use Rattle.radio.specs.Record.{waitOf, stateOf, meant, tagOf, flagOf, waitNumber, recordIn, recordOf}
 use Rattle.radio.specs.Call.{heardIn, heard, padded, isFrame, refusal, taken, calledAt, called, Met}
@@ -139,15 +139,7 @@ refused-done k held img before = record { refused = refl; bits = refl; left = re
 
 -- ---- the call
 
--- an answer's bits fit the bytes that it takes
-bits-fit : (o : Reply) → bitsOf o ≤ 8 * length (answerOf o)
-unfolding bitsOf answerOf lowBytes
-bits-fit silence = omega arith
-bits-fit (nibble v) = omega arith
-bits-fit (bytes bs) = omega (arith, length-with-crc bs)
-bits-fit (plain k v) = rw length-build (omega arith)
-
--- and these the buffer, whose length stays
+-- an answer fits the buffer, whose length stays
 answer-fits : (a before after : List ℕ) → after ≡ over a before → length after ≡ length before → length a ≤ length before
 unfolding over
 answer-fits a before after e l = omega (arith, ap length e, length-append a (drop (length a) before))
@@ -175,7 +167,7 @@ module _ (n : ℕ) (img : List ℕ) (held : TagRecord) (f : List ℕ) (bits : �
         left = w ∙ ap recordOf (d .tag);
         image = d .image;
         answer = d .answer;
-        fits = rw (d .bits) (omega (arith, bits-fit o, answer-fits (answerOf o) before after (d .answer) k));
+        fits = rw (d .bits) (omega (arith, answer-bytes o, answer-fits (answerOf o) before after (d .answer) k));
       })
 
 pub found-fits : (n : ℕ) (img : List ℕ) (s : Size) → s ≡ sizeOf (length img) → s ≡ Pages n → Fits n img

@@ -78,11 +78,7 @@ module _ (r a b c x : ℕ) where
   unfolding sent
   sent-read d f p q s t u h = h .0 ∙ rw (p, q, s, t, u)
 
--- read from a frame that has them all
-abbrev pub Forty : ℕ → List ℕ → Type 0
-Forty r f = (r ≡ forty (getD f 2 0) (getD f 3 0) (getD f 4 0) (getD f 5 0) (getD f 6 0)) × (r < 2 ^ 40)
-
-pub sent-whole : (r : ℕ) (f : List ℕ) → Forty r f → r ≡ sent f
+pub sent-whole : (r : ℕ) (f : List ℕ) → (r ≡ forty (getD f 2 0) (getD f 3 0) (getD f 4 0) (getD f 5 0) (getD f 6 0)) × (r < 2 ^ 40) → r ≡ sent f
 unfolding sent
 sent-whole r f h = h .0
 
@@ -155,23 +151,23 @@ module _ (t : Tag) (f : List ℕ) (bits own sak : ℕ) (r : Step) where
   unfolding select
   select-count ne h before img = rw (ne-eqb bits 72 ne) (h img before)
 
-  pub select-other : (s : ℕ) → bits ≡ 72 → Forty s f → (s ≡ own → ⊥) → Lost t r → (before : List ℕ) → DidAny (select t f bits own sak) r before before
+  pub select-other : (s : ℕ) → bits ≡ 72 → s ≡ sent f → (s ≡ own → ⊥) → Lost t r → (before : List ℕ) → DidAny (select t f bits own sak) r before before
   unfolding select
-  select-other s b q ne h before img = rw (b, ← sent-whole s f q, ne-eqb s own ne) (h img before)
+  select-other s b q ne h before img = rw (b, ← q, ne-eqb s own ne) (h img before)
 
-  pub select-crc : (s : ℕ) (k : Bool) → length f ≡ (bits + 7) / 8 → bits ≡ 72 → Forty s f → s ≡ own → k ≡ crcRight (take 9 f) → k ≡ false → Lost t r
+  pub select-crc : (s : ℕ) (k : Bool) → length f ≡ (bits + 7) / 8 → bits ≡ 72 → s ≡ sent f → s ≡ own → k ≡ crcRight (take 9 f) → k ≡ false → Lost t r
       → (before : List ℕ) → DidAny (select t f bits own sak) r before before
   unfolding select
-  select-crc s k l b q e c d h before img = rw (b, ← sent-whole s f q, eq-eqb s own e, ← all-nine f bits k l b c, d) (h img before)
+  select-crc s k l b q e c d h before img = rw (b, ← q, eq-eqb s own e, ← all-nine f bits k l b c, d) (h img before)
 
 pub select-done : (t t′ : Tag) (f : List ℕ) (bits own sak : ℕ) (s count : ℕ) (k : Bool) (state : State) (before mid after : List ℕ)
-    → length f ≡ (bits + 7) / 8 → bits ≡ 72 → Forty s f → s ≡ own → k ≡ crcRight (take 9 f) → k ≡ true
+    → length f ≡ (bits + 7) / 8 → bits ≡ 72 → s ≡ sent f → s ≡ own → k ≡ crcRight (take 9 f) → k ≡ true
     → mid ≡ over (sak ∷ []) before → (count ≡ 8 * (1 + 2)) × (after ≡ over (withCrc (take 1 mid)) mid)
     → state ≡ selected (t .state) → t′ ≡ moved t state → DidAny (select t f bits own sak) (record { bits = count; tag = t′ }) before after
 unfolding select apply
 select-done t t′ f bits own sak s count k state before mid after l b q e c d em m g h img =
     let a = answered (sak ∷ []) before mid after 1 count refl em m in
-    rw (b, ← sent-whole s f q, eq-eqb s own e, ← all-nine f bits k l b c, d)
+    rw (b, ← q, eq-eqb s own e, ← all-nine f bits k l b c, d)
     (record { image = refl; bits = a .0; tag = h ∙ ap (moved t) g; answer = a .1 })
 
 -- ---- READY1 and READY2

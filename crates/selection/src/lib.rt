@@ -99,7 +99,7 @@ fn own2(image: &[u8]) -> u64
     )
 }
 
-// The forty bits behind a frame's first two bytes, by one test of its length where it has them all.
+// The forty bits behind a frame's first two bytes; most frames have them all.
 fn sent(frame: &[u8]) -> u64
     ensures { λ r. ⌜ r ≡ sent (now (frame .entry)) ⌝ }
 {
@@ -164,7 +164,7 @@ fn select(answer: &mut [u8], tag: Tag, frame: &[u8], bits: usize, own: u64, sak:
     if bits != 72 {
         return tag::lost(tag);
     }
-    if forty(frame[2], frame[3], frame[4], frame[5], frame[6]) != own {
+    if sent(frame) != own {
         return tag::lost(tag);
     }
     // All nine bytes, as a part whose length is written here: the compiler then unrolls the CRC_A.

@@ -9,7 +9,7 @@ use lib.ListN.{length, take, drop, set, getD, length-append}
 use lib.Seq.{take-length, sets, sets-eq, set-split, take-at, drop-drop, drop-append-add, length-take-le}
 use Rattle.crc_a.specs.CrcA.{crcA, sent, withCrc}
 use Rattle.tag.specs.State.{moved, backToWait}
-use Rattle.tag.specs.Outcome.{build, byteOf, lowBytes, plain, silence, bytes, bitsOf, answerOf, over, keep, apply, does, Did, lost, nak}
+use Rattle.tag.specs.Outcome.{build, byteOf, lowBytes, Reply, plain, silence, nibble, bytes, bitsOf, answerOf, over, keep, apply, does, Did, lost, nak}
 use Rattle.tag.specs.declared.State.{State}
 use Rattle.tag.specs.declared.Tag.{Tag}
 use Rattle.tag.specs.declared.Step.{Step}
@@ -114,6 +114,14 @@ plain-done t k v before after l e img = record { image = refl; bits = refl; tag 
 pub length-with-crc : (bs : List ℕ) → length (withCrc bs) ≡ length bs + 2
 unfolding withCrc sent
 length-with-crc bs = length-append bs _
+
+-- an answer takes as many bytes as its bits, rounded up
+pub answer-bytes : (o : Reply) → length (answerOf o) ≡ (bitsOf o + 7) / 8
+unfolding bitsOf answerOf lowBytes
+answer-bytes silence = refl
+answer-bytes (nibble v) = refl
+answer-bytes (bytes bs) = omega (arith, length-with-crc bs)
+answer-bytes (plain k v) = length-build _ _
 
 -- the CRC_A was stored behind the first n bytes
 pub crc-behind : (buffer after : List ℕ) (n : ℕ) → (n + 2 ≤ length buffer) × (n ≤ 1022) → after ≡ sets buffer n (sent (crcA (take n buffer)))

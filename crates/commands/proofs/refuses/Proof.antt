@@ -1,10 +1,7 @@
--- `commands::refuses` meets its contract. The arm of two regions goes by its two keys: 2 is `Capability`, 3 is `User`. Assumes nothing.
-use mathlib.Core.Logic.{⊎-elim}
+-- `commands::refuses` meets its contract. Assumes nothing.
 use borrow.Author.Needs.{needs}
-use borrow.Enum.Known.{lives-at}
-use Rattle.image.proofs.Region.{enum}
 use Rattle.commands.specs.Commands.{refusesIn}
-use Rattle.commands.proofs.Laws.{refuses-guarded, refuses-by}
+use Rattle.commands.proofs.Laws.{refuses-guarded, refuses-by, refuses-locked}
 use Rattle.commands.proofs.refuses.Statement.{statement}
 use Rattle.commands.proofs.refuses.Tie as tie
 
@@ -20,13 +17,7 @@ unfolding refusesIn
 returns-3 c = search refuses-by
 
 returns-4 : tie.Need-returns-4
-unfolding refusesIn
-returns-4 c =
-    let region = c .before .before .region-of .result in
-    ⊎-elim
-    (λ e. let capability = lives-at enum region 2 e .1 in search refuses-by)
-    (λ e. let user = lives-at enum region 3 e .1 in search refuses-by)
-    (c .before .match .keys3)
+returns-4 c = search refuses-locked
 
 returns-5 : tie.Need-returns-5
 unfolding refusesIn

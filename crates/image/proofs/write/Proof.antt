@@ -1,12 +1,24 @@
 -- `image::write` meets its contract. Assumes nothing.
 use borrow.Author.Needs.{needs}
-use Rattle.image.specs.Write.{write}
+use Rattle.image.specs.Write.{writtenIn}
+use Rattle.image.proofs.Laws.{write-by, write-replaces}
 use Rattle.image.proofs.write.Statement.{statement}
 use Rattle.image.proofs.write.Tie as tie
 
 returns : tie.Need-returns
-unfolding write
-returns c = cc
+unfolding writtenIn
+returns c = search write-by
+
+returns-2 : tie.Need-returns-2
+unfolding writtenIn
+returns-2 c = search write-by
+
+returns-3 : tie.Need-returns-3
+unfolding writtenIn
+returns-3 c = search write-by
+
+returns-4 : tie.Need-returns-4
+returns-4 c = search write-replaces
 
 pub write-spec : {M : Type 1} → statement M
 write-spec =
@@ -14,6 +26,21 @@ write-spec =
     (tie.spec
     (λ c κs. search needs)
     (λ c κs. search needs)
+    (λ c. search needs)
+    (λ c κs. search needs)
     (λ c κs. search needs)
     (λ c. search needs)
-    returns)
+    (λ c κs. search needs)
+    (λ c κs. search needs)
+    (λ c. search needs)
+    (λ c κs. search needs)
+    (λ c κs. search needs)
+    (λ c κs. search needs)
+    (λ c. search needs)
+    returns
+    (λ c. search needs)
+    returns-2
+    (λ c. search needs)
+    returns-3
+    (λ c. search needs)
+    returns-4)

@@ -8,8 +8,7 @@ returns : tie.Need-returns
 returns c = search select-count
 
 returns-2 : tie.Need-returns-2
-returns-2 c =
-    select-other _ _ _ _ _ _ _ (search needs) (c .before .before .forty .ensures) (c .before .if2 .taken) (c .lost2 .ensures) _
+returns-2 c = search select-other
 
 returns-3 : tie.Need-returns-3
 returns-3 c = search select-done
@@ -23,11 +22,6 @@ select-spec =
     (tie.spec
     (λ c κs. search needs)
     returns
-    (λ c. search needs)
-    (λ c. search needs)
-    (λ c. search needs)
-    (λ c. search needs)
-    (λ c. search needs)
     (λ c κs. search needs)
     (λ c κs. search needs)
     returns-2
