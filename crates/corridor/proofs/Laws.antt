@@ -11,7 +11,7 @@ use borrow.Rule.Slice.PartMut.{putMid}
 use Rattle.image.specs.declared.Size.{Size}
 use Rattle.image.specs.declared.Size.the-variants.{Pages, Unknown}
 use Rattle.image.specs.Layout.{sizeOf}
-use Rattle.tag.specs.Outcome.{Reply, silence, nibble, bytes, plain, bitsOf, lowBytes, answerOf, over}
+use Rattle.tag.specs.Outcome.{Reply, bitsOf, answerOf, over}
 use Rattle.tag.specs.State.{fieldOff}
 use Rattle.tag.proofs.Laws.{answer-bytes}
 use Rattle.radio.specs.declared.TagRecord.{TagRecord}
@@ -23,6 +23,7 @@ use Rattle.two_wire.specs.declared.BusAnswer.{BusAnswer}
 use Rattle.two_wire.specs.declared.BusStep.{BusStep}
 use Rattle.two_wire.specs.Record.{atRest}
 use Rattle.two_wire.specs.Step.{byEvent, bySize, does, Did}
+use Rattle.lines.proofs.Saying.{front}
 use Rattle.lines.specs.declared.read.Command.{Command}
 use Rattle.lines.specs.declared.read.Command.the-variants.{Image, Buffer, Frame}
 use Rattle.lines.specs.declared.write.Answer.{Answer}
@@ -38,9 +39,6 @@ use Rattle.corridor.specs.declared.session.Session.{Session}
 use Rattle.corridor.specs.declared.session.Acted.{Acted}
 
 -- ---- the front of a buffer, lent and given back
-
-front : (xs : List ℕ) (n : ℕ) → take (n - 0) (drop 0 xs) ≡ take n xs
-front xs n = let p : n - 0 ≡ n = omega arith in ap (λ (k : ℕ). take k xs) p
 
 back : (xs part : List ℕ) (n : ℕ) → n ≤ length xs → length part ≡ length (take (n - 0) (drop 0 xs)) → take n (putMid 0 (n - 0) xs part) ≡ part
 back xs part n h e =

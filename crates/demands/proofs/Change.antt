@@ -30,7 +30,7 @@ use Rattle.active.specs.declared.Command.the-variants.{Read, FastRead, Write, V
 use Rattle.active.specs.Frame.{lengthOf, named, commandOf, done, inActive}
 use Rattle.selection.specs.Selection.{isReqa, isWupa, wakes, inIdle, inHalt, own1, own2, sent, asks, known, anticollision, select, inReady, inReady1, inReady2}
 use Rattle.radio.specs.Call.{heardIn, heard}
-use Rattle.demands.specs.Run.{Frame, carries, offers}
+use Rattle.demands.specs.Run.{carries, offers}
 use Rattle.active.proofs.Laws.{same-either}
 use Rattle.selection.proofs.Laws.{and-left, and-right}
 use Rattle.demands.proofs.Tests.{by, split, never}

@@ -10,7 +10,7 @@ use borrow.Author.Tests.{eqb-true, eqb-false, leb-true, leb-false, le-leb}
 use Rattle.locks.proofs.Bits.{gains-self, gains-trans}
 use Rattle.image.specs.declared.Four.{Four}
 use Rattle.image.specs.declared.Region.{Region}
-use Rattle.image.specs.declared.Region.the-variants.{User, Settings, Outside}
+use Rattle.image.specs.declared.Region.the-variants.{User, Settings}
 use Rattle.image.specs.Layout.{Fits, pageAt, secondSettings, regionOf}
 use Rattle.image.specs.Settings.{auth0, settingsLocked}
 use Rattle.image.specs.Write.{locked, written, write, NoneCleared}

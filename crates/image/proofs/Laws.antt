@@ -23,7 +23,6 @@ use Rattle.image.specs.Write.{statics, dynamics, locked, writtenIn, writ
 use Rattle.image.specs.Tail.{counterIn, nextCount, counted}
 use Rattle.image.proofs.Region.{enum}
 use Rattle.image.specs.declared.Four.{Four}
-use Rattle.image.specs.declared.Size.{Size}
 use Rattle.image.specs.declared.Size.the-variants.{Pages, Unknown}
 use Rattle.image.specs.declared.Region.{Region}
 use Rattle.image.specs.declared.Region.the-variants.{Uid, StaticLocks, Capability, User, DynamicLocks, Settings, Password, Outside}

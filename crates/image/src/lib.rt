@@ -8,7 +8,7 @@ ghost use Rattle.image.specs.Layout.{sizeOf, Fits, byte, pageAt, bytesOf
 ghost use Rattle.image.specs.Settings.{auth0, access, prot, settingsLocked, counterOn, counterGuarded, authlim};
 ghost use Rattle.image.specs.Uid.{uid, bcc0, bcc1};
 ghost use Rattle.image.specs.Shown.{shown, shownPage};
-ghost use Rattle.image.specs.Write.{locked, staticsWritten, capabilityWritten, dynamicsWritten, written, write};
+ghost use Rattle.image.specs.Write.{locked, staticsWritten, capabilityWritten, dynamicsWritten, write};
 ghost use Rattle.image.specs.Tail.{failed, nextCount, counted, withFailed};
 
 // The size that an image's length tells.

@@ -174,10 +174,11 @@ module _ (w : List ℕ) where
 
 -- ---- the front of a buffer that a line is
 
+pub front : (xs : List ℕ) (n : ℕ) → take (n - 0) (drop 0 xs) ≡ take n xs
+front xs n = let p : n - 0 ≡ n = omega arith in ap (λ (k : ℕ). take k xs) p
+
 pub said-front : (line : List ℕ) (n : ℕ) (s : Said) → s ≡ saidOf (take (n - 0) (drop 0 line)) → s ≡ saidOf (take n line)
-said-front line n s e =
-    let p : n - 0 ≡ n = omega arith in
-    e ∙ ap (λ (k : ℕ). saidOf (take k line)) p
+said-front line n s e = e ∙ ap saidOf (front line n)
 
 module _ (line : List ℕ) (n : ℕ) (few : n ≤ length line) where
   front-length : length (take n line) ≡ n

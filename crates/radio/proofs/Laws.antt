@@ -2,7 +2,7 @@
 use mathlib.Core.Path.{_≡_, refl, sym, ap, _∙_, subst⁻¹}
 use mathlib.Core.List.{List}
 use mathlib.Core.Bool.{Bool, true, false}
-use Prim.Native.Nat.{ℕ, _+_, _*_, _/_, _%_, _^_, _≤_, _<_}
+use Prim.Native.Nat.{ℕ, _+_, _/_, _%_, _^_, _≤_, _<_}
 use native.Mathlib.Nat.{div-lt-iff-lt-mul}
 use native.Mathlib.Omega.{arith}
 use lib.Dec.{eqb, leb, ltb}
@@ -19,7 +19,7 @@ use Rattle.tag.specs.declared.State.the-variants.{Ready1, Ready2, Active}
 use Rattle.tag.specs.declared.Tag.{Tag}
 use Rattle.tag.specs.declared.Step.{Step}
 use Rattle.tag.specs.State.{fieldOff}
-use Rattle.tag.specs.Outcome.{Reply, silence, nibble, bytes, plain, lowBytes, bitsOf, answerOf, over, apply, Did}
+use Rattle.tag.specs.Outcome.{bitsOf, answerOf, over, apply, Did}
 use Rattle.tag.proofs.Laws.{answer-bytes}
 use Rattle.selection.proofs.Laws.{and-left, and-right}
 use Rattle.radio.specs.Record.{waitOf, stateOf, meant, tagOf, flagOf, waitNumber, recordIn, recordOf}

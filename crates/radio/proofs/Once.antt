@@ -3,7 +3,6 @@ use mathlib.Core.Path.{_≡_, refl, sym, _∙_}
 use mathlib.Core.List.{List}
 use mathlib.Core.Bool.{Bool, true, false}
 use Prim.Native.Nat.{ℕ}
-use Rattle.tag.specs.declared.Wait.{Wait}
 use Rattle.tag.specs.declared.Wait.the-variants.{ToIdle, ToHalt}
 use Rattle.tag.specs.declared.State.{State}
 use Rattle.tag.specs.declared.State.the-variants.{Idle, Halt, Ready1, Ready2, Active}
