@@ -1,5 +1,6 @@
 /* Holds the proved tag against the plain one on mixed frames and bus events. */
 #include "host.h"
+#include "plain.h"
 #include "tags.h"
 
 /* ---- dice */
@@ -37,7 +38,8 @@ static void take_image(void) {
         plain.image[i] = proved.image[i];
     proved.length = plain.length = length;
     proved.record = plain.record = corridor_field_off();
-    proved.bus = plain.bus = corridor_bus_at_rest();
+    proved.bus = corridor_bus_at_rest();
+    plain.bus = plain_bus_at_rest();
 }
 
 static uint8_t dice_page(void) {

@@ -456,7 +456,7 @@ static bool low_address_sent(corridor_bus_record *bus, unsigned pages, uint8_t l
 static void data_byte_sent(corridor_bus_record *bus, uint8_t byte)
 {
     bus->bytes[(bus->counter + bus->held) & 63] = byte;
-    bus->held = bus->held < 127 ? bus->held + 1 : 64;
+    bus->held = bus->held < 64 ? bus->held + 1 : 64 + ((bus->held + 1) & 63);
 }
 
 /* Gives whether the byte is acknowledged. */

@@ -1,4 +1,4 @@
-/* The host: start and end of a program, its output, its clock, and the three functions of memory that compiled code calls. */
+/* The host: start and end of a program, its output, its clock, and the four functions of memory that compiled code calls. */
 #include "host.h"
 
 #if defined(__x86_64__)

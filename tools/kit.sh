@@ -1,5 +1,5 @@
 # What the scripts know of the Rattle kit. Sourced with `name`, the script's name, and `root`, the repository's folder. Sets rt, the kit's
-# command; toolchain, its folder for this machine; and emulator, empty where the machine runs x86-64 programs itself.
+# command; kit, its folder; toolchain, its folder for this machine; and emulator, empty where the machine runs x86-64 programs itself.
 
 fail() {
     printf '%s: %s\n' "$name" "$*" >&2
@@ -7,7 +7,7 @@ fail() {
 }
 
 rt=$(command -v rt) || fail "the Rattle kit's command rt is not in PATH"
-kit=${RATTLE_HOME:-$(dirname "$(dirname "$(readlink -f "$rt")")")}
+kit=$(readlink -f "${RATTLE_HOME:-$(dirname "$(dirname "$(readlink -f "$rt")")")}") || fail "RATTLE_HOME names no folder"
 toolchain=$kit/on/$(uname -m)/toolchain
 [ -d "$toolchain" ] || fail "no toolchain for this machine at $toolchain (RATTLE_HOME names the kit's folder)"
 emulator=$toolchain/bin/qemu-x86_64

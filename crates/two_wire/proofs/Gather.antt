@@ -9,7 +9,7 @@ use native.Mathlib.Omega.{arith}
 use lib.Dec.{ltb}
 use lib.ListN.{length, getD, length-set}
 use lib.Seq.{getD-set-same, getD-set-other}
-use borrow.Author.Tests.{ltb-true, ltb-false}
+use borrow.Author.Tests.{lt-ltb, le-ltb, ltb-true, ltb-false}
 use Rattle.two_wire.specs.Window.{placeAfter}
 use Rattle.two_wire.specs.Record.{phaseOf, oneMore, gathers}
 use Rattle.two_wire.specs.Run.{gathersAll}
@@ -32,29 +32,34 @@ pub record Counts (m h : ℕ) : Type 0 where
   pub few : m < 64 → h ≡ m
   pub many : 64 ≤ m → 64 ≤ h
   pub place : h % 64 ≡ m % 64
-  pub most : h ≤ 127
+
+-- the next place is one further on
+more-place : (h : ℕ) → oneMore h % 64 ≡ (h + 1) % 64
+unfolding oneMore
+more-place h = pick (ltb h 64)
+  where
+    pick : (t : Bool) → cond t (h + 1) (64 + (h + 1) % 64) % 64 ≡ (h + 1) % 64
+    pick true = refl
+    pick false = omega arith
 
 counts-more : (m h : ℕ) → Counts m h → Counts (suc m) (oneMore h)
 unfolding oneMore
-counts-more m h c = by (ltb h 127) refl
+counts-more m h c = by (ltb m 64) refl
   where
-    by : (t : Bool) → ltb h 127 ≡ t → Counts (suc m) (cond t (h + 1) 64)
+    next : oneMore h % 64 ≡ suc m % 64
+    next = let before = c .place in let more = more-place h in omega arith
+
+    by : (t : Bool) → ltb m 64 ≡ t → Counts (suc m) (oneMore h)
     by true e =
-        let l = ltb-true h 127 e in
-        let place = c .place in
-        record { few = λ k. let same = c .few (omega arith) in omega arith; many = λ k. enough k; place = omega arith; most = omega arith }
-      where
-        enough : 64 ≤ suc m → 64 ≤ h + 1
-        enough k = pick (ltb m 64) refl
-          where
-            pick : (t : Bool) → ltb m 64 ≡ t → 64 ≤ h + 1
-            pick true p = let l = ltb-true m 64 p in let same = c .few l in omega arith
-            pick false p = let l = ltb-false m 64 p in let full = c .many l in omega arith
+        let l = ltb-true m 64 e in
+        let same : h ≡ m = c .few l in
+        let up : oneMore h ≡ h + 1 = rw (lt-ltb h 64 (omega arith)) in
+        record { few = λ k. omega arith; many = λ k. omega arith; place = next }
     by false e =
-        let l = ltb-false h 127 e in
-        let most = c .most in
-        let place = c .place in
-        record { few = λ k. let same = c .few (omega arith) in omega arith; many = λ k. omega arith; place = omega arith; most = omega arith }
+        let full = c .many (ltb-false m 64 e) in
+        let l = ltb-false m 64 e in
+        let up : oneMore h ≡ 64 + (h + 1) % 64 = rw (le-ltb h 64 full) in
+        record { few = λ k. absurd (omega arith); many = λ k. omega arith; place = next }
 
 pub counts-gathered : (bs : List ℕ) (r : BusRecord) (m : ℕ) → Counts m (r .held) → Counts (m + length bs) (gathersAll r bs .held)
 unfolding gathersAll gathers
@@ -66,29 +71,28 @@ counts-gathered (b ∷ bs) r m c =
 -- ---- the places
 
 -- the place of the byte after i more
-further : (a m h i : ℕ) → Counts m h → (a + oneMore h + i) % 64 ≡ (a + h + suc i) % 64
-further a m h i c = let before = c .place in let after = counts-more m h c .place in omega arith
+further : (a h i : ℕ) → (a + oneMore h + i) % 64 ≡ (a + h + suc i) % 64
+further a h i = let more = more-place h in omega arith
 
 -- a place that none of them goes to
-untouched : (bs : List ℕ) (r : BusRecord) (m q : ℕ) → Counts m (r .held) → ((i : ℕ) → i < length bs → q ≢ (r .counter + r .held + i) % 64)
+untouched : (bs : List ℕ) (r : BusRecord) (q : ℕ) → ((i : ℕ) → i < length bs → q ≢ (r .counter + r .held + i) % 64)
     → getD (gathersAll r bs .bytes) q 0 ≡ getD (r .bytes) q 0
 unfolding gathersAll gathers placeAfter
-untouched [] r m q c h = refl
-untouched (b ∷ bs) r m q c h =
-    untouched bs (gathers r b) (suc m) q (counts-more m (r .held) c) (λ i l e. h (suc i) (omega arith) (e ∙ further (r .counter) m (r .held) i c))
+untouched [] r q h = refl
+untouched (b ∷ bs) r q h =
+    untouched bs (gathers r b) q (λ i l e. h (suc i) (omega arith) (e ∙ further (r .counter) (r .held) i))
     ∙ getD-set-other (r .bytes) ((r .counter + r .held) % 64) q b 0 (λ e. h 0 (omega arith) (e ∙ ap (λ (x : ℕ). x % 64) (omega arith)))
 
 -- "latest for each place": byte i stands at its place if no more than 63 come after it
-pub touched : (bs : List ℕ) (r : BusRecord) (m i : ℕ) → Counts m (r .held) → length (r .bytes) ≡ 64 → i < length bs → length bs ≤ i + 64
+pub touched : (bs : List ℕ) (r : BusRecord) (i : ℕ) → length (r .bytes) ≡ 64 → i < length bs → length bs ≤ i + 64
     → getD (gathersAll r bs .bytes) ((r .counter + r .held + i) % 64) 0 ≡ getD bs i 0
 unfolding gathersAll gathers placeAfter
-touched [] r m i c w l k = absurd (omega arith)
-touched (b ∷ bs) r m zero c w l k =
+touched [] r i w l k = absurd (omega arith)
+touched (b ∷ bs) r zero w l k =
     let e : (r .counter + r .held + 0) % 64 ≡ (r .counter + r .held) % 64 = ap (λ (x : ℕ). x % 64) (omega arith) in
     rw e
-    (untouched bs (gathers r b) (suc m) ((r .counter + r .held) % 64) (counts-more m (r .held) c)
-    (λ i h q. let s = further (r .counter) m (r .held) i c in omega arith)
+    (untouched bs (gathers r b) ((r .counter + r .held) % 64) (λ i h q. let s = further (r .counter) (r .held) i in omega arith)
     ∙ getD-set-same (r .bytes) ((r .counter + r .held) % 64) b 0 (omega arith))
-touched (b ∷ bs) r m (suc i) c w l k =
-    rw (← further (r .counter) m (r .held) i c)
-    (touched bs (gathers r b) (suc m) i (counts-more m (r .held) c) (length-set (r .bytes) ((r .counter + r .held) % 64) b ∙ w) (omega arith) (omega arith))
+touched (b ∷ bs) r (suc i) w l k =
+    rw (← further (r .counter) (r .held) i)
+    (touched bs (gathers r b) i (length-set (r .bytes) ((r .counter + r .held) % 64) b ∙ w) (omega arith) (omega arith))

@@ -151,13 +151,13 @@ sent-address n r s a a′ e f = rw (← f) e
 
 -- ---- the gathered bytes
 
-pub more-few : (k : ℕ) → k < 127 → k + 1 ≡ oneMore k
+pub more-few : (k : ℕ) → k < 64 → k + 1 ≡ oneMore k
 unfolding oneMore
-more-few k l = rw (lt-ltb k 127 l)
+more-few k l = rw (lt-ltb k 64 l)
 
-pub more-many : (k : ℕ) → 127 ≤ k → 64 ≡ oneMore k
+pub more-many : (k : ℕ) → 64 ≤ k → 64 + (k % 64 + 1) % 64 ≡ oneMore k
 unfolding oneMore
-more-many k l = rw (le-ltb k 127 l)
+more-many k l = rw (le-ltb k 64 l) (omega arith)
 
 pub counter-moved : (r : BusRecord) (page place wide : ℕ) → (r .held ≡ 0 → ⊥) → page ≡ pageOf (r .counter) → place ≡ placeAfter (r .counter) (r .held) → wide ≡ place
     → page + wide ≡ counterAfter r

@@ -137,7 +137,7 @@ stored-shown n img a l =
 -- ---- a write that is stopped
 
 none-counted : Counts 0 0
-none-counted = record { few = λ k. refl; many = λ k. absurd (omega arith); place = refl; most = omega arith }
+none-counted = record { few = λ k. refl; many = λ k. absurd (omega arith); place = refl }
 
 -- the count that is held after the bytes of a write
 counted : (a : ℕ) (bs : List ℕ) → Counts (length bs) (gathersAll (idle Writing a) bs .held)
@@ -200,7 +200,7 @@ module _ (n : ℕ) (img : List ℕ) (size : sizeOf (length img) ≡ Pages n) (r 
       ∙ ap (λ (x : ℕ). getD (landed n sent-record img) (offset x) 0) (sym at)
       ∙ landed-here n sent-record img (i % 64) (fits n img size) (among i k) (rw at v, rw at s)
       ∙ ap (λ (x : ℕ). getD (sent-record .bytes) x 0) (place ∙ ap (λ (x : ℕ). x % 64) (omega arith))
-      ∙ touched bs (idle Writing a) 0 i none-counted refl k m
+      ∙ touched bs (idle Writing a) i refl k m
 
   -- What is written from image byte 10 on, below PWD and within a page, is read back from the same address.
   pub read-back : first + 10 ≤ a → a % 64 + length bs ≤ 64 → a + length bs ≤ first + 4 * (n - 2)

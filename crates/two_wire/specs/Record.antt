@@ -4,7 +4,7 @@ use mathlib.Core.Bool.{cond}
 use Prim.Native.Nat.{ℕ, _+_}
 use lib.Dec.{eqb, ltb}
 use lib.ListN.{replicate, set}
-use Rattle.two_wire.specs.Window.{first, places, placeAfter}
+use Rattle.two_wire.specs.Window.{first, places, placeOf, placeAfter}
 use Rattle.two_wire.specs.declared.BusRecord.{BusRecord}
 use Rattle.two_wire.specs.declared.Phase.{Phase}
 use Rattle.two_wire.specs.declared.Phase.the-variants.{Rest, Device, High, Low, Writing, Reading, Deaf}
@@ -46,10 +46,10 @@ atRest = idle Rest first
 unfoldable pub awaitsLow : ℕ → ℕ → BusRecord
 awaitsLow counter h = record { phase = numberOf Low; held = h; counter = counter; bytes = none }
 
--- While data bytes come their count is held. From 64 on every place is gathered, and only the next place still goes by it: 127 is followed
--- by 64.
+-- While data bytes come their count is held. From 64 on every place is gathered, and only the next place still goes by it, so that 127 is
+-- followed by 64.
 unfoldable pub oneMore : ℕ → ℕ
-oneMore k = cond (ltb k 127) (k + 1) 64
+oneMore k = cond (ltb k places) (k + 1) (places + placeOf (k + 1))
 
 -- "Data bytes are acknowledged and gathered", "latest for each place"
 unfoldable pub gathers : BusRecord → ℕ → BusRecord

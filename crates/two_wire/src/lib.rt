@@ -249,7 +249,11 @@ fn address(high: u8, low: u8) -> u16
 fn one_more(count: u8) -> u8
     ensures { λ r. ⌜ r ≡ oneMore count ⌝ }
 {
-    if count < 127 { count + 1 } else { 64 }
+    if count < 64 {
+        count + 1
+    } else {
+        64 + (count % 64 + 1) % 64
+    }
 }
 
 fn gathers(rec: BusRecord, byte: u8) -> BusRecord
