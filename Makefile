@@ -1,5 +1,5 @@
 # make run   plays a day on the tag (day/day.txt)
-# make test  the gate: the stored scripts are those of the second opinion, and everything is proved and run
+# make test  the gate: the stored scripts are those of the second opinion, a generated proof is what its tool writes, and everything is proved and run
 # make long  compares the tag with the second opinion on a million lines of fresh scripts (N=1000 SEED=7: so many, from that seed)
 # make board builds the library for firmware in C, and runs a main loop over it
 # make bench times the proved tag against a plain one in C
@@ -10,6 +10,7 @@ run:
 
 test:
 	@python3 second check
+	@tools/outer --check two_wire corridor_bus_event
 	@rt ci
 
 long:

@@ -120,7 +120,7 @@ typedef struct {
 corridor_tag_record corridor_field_off(void);
 
 /* The field was lost. Gives the record to keep. The image stays as it is, and so do the two wires. Never refused. */
-corridor_tag_record corridor_field_loss(corridor_tag_record held);
+corridor_tag_record corridor_field_loss(corridor_tag_record tag);
 
 /*
  * A frame of `bits` bits was heard. Its bits are packed least significant first into frame_length bytes, and what is left of the last byte
@@ -130,7 +130,7 @@ corridor_tag_record corridor_field_loss(corridor_tag_record held);
  * `answer` behind the answer keep their contents. A refused call (1, 2 or 3) changes neither image nor answer, and gives the record that it
  * was given.
  */
-corridor_answer corridor_frame(uint8_t *image, size_t image_length, uint8_t *answer, size_t answer_length, corridor_tag_record held,
+corridor_answer corridor_frame(uint8_t *image, size_t image_length, uint8_t *answer, size_t answer_length, corridor_tag_record tag,
                                const uint8_t *frame, size_t frame_length, size_t bits, bool parity_good);
 
 /* ---- two wires */
@@ -142,7 +142,7 @@ corridor_bus_record corridor_bus_at_rest(void);
  * An event was seen on the two wires. `byte` is the byte sent, and any number for the other events. Updates the record where it is, and at a
  * stop after data bytes also the image. A refused call (1 or 4) changes neither.
  */
-corridor_bus_answer corridor_bus_event(corridor_bus_record *held, uint8_t *image, size_t image_length, uint8_t event, uint8_t byte);
+corridor_bus_answer corridor_bus_event(corridor_bus_record *bus, uint8_t *image, size_t image_length, uint8_t event, uint8_t byte);
 
 /* ---- what there is to know of an image */
 

@@ -1,14 +1,14 @@
 -- A frame in ACTIVE: which command it is, and that it does what its command does. Assumes nothing.
-use mathlib.Core.Path.{_≡_, refl}
+use mathlib.Core.Path.{_≡_, sym, _∙_}
 use mathlib.Core.List.{List}
-use mathlib.Core.Bool.{Bool, true, false, cond}
-use Prim.Native.Nat.{ℕ, _%_, _≤_, _<_}
-use lib.Dec.{eqb}
+use mathlib.Core.Bool.{Bool, true, false}
+use Prim.Native.Nat.{ℕ, _+_, _%_, _≤_, _<_}
+use lib.Dec.{leb, ltb}
 use lib.ListN.{length, getD}
-use borrow.Author.Tests.{ne-eqb, eq-eqb, lt-leb, le-leb}
+use borrow.Author.Tests.{ltb-true, leb-true, ne-eqb, eq-eqb, lt-leb, le-leb}
 use Rattle.crc_a.specs.CrcA.{crcRight}
-use Rattle.tag.specs.declared.Tag.{Tag}
-use Rattle.tag.specs.declared.Step.{Step}
+use Rattle.tag.specs.declared.state.Tag.{Tag}
+use Rattle.tag.specs.declared.outcome.Step.{Step}
 use Rattle.tag.specs.Outcome.{Did, lost}
 use Rattle.tag.proofs.Laws.{Naks}
 use Rattle.active.specs.Frame.{lengthOf, named, commandOf, done, inActive}
@@ -17,27 +17,36 @@ use Rattle.active.specs.declared.Command.the-variants.{Unknown}
 
 -- ---- which command a frame is
 
-pub same-either : (b : Bool) (c : Command) → c ≡ cond b c c
-same-either true c = refl
-same-either false c = refl
+-- a byte of a frame whose code and length are known
+pub arm-byte : (code k i : ℕ) (f : List ℕ) → code ≡ k → length f ≡ lengthOf code → ltb i (lengthOf k) ≡ true → i < length f
+arm-byte code k i f e l h = let m = ltb-true i (lengthOf k) h in rw (l, e) m
 
--- a known code at its length, and at another
-module _ (code : ℕ) (f : List ℕ) (e : getD f 0 0 ≡ code) where
-  pub known : (k : Command) → length f ≡ lengthOf code → k ≡ named f code → k ≡ commandOf f
+pub arm-four : (code k i : ℕ) (f : List ℕ) → code ≡ k → length f ≡ lengthOf code → leb (i + 4) (lengthOf k) ≡ true → i + 4 ≤ length f
+arm-four code k i f e l h = let m = leb-true (i + 4) (lengthOf k) h in rw (l, e) m
+
+pub arm-named : (code k : ℕ) (f : List ℕ) (r : Command) → code ≡ k → r ≡ named f k → r ≡ named f code
+arm-named code k f r e h = rw e h
+
+pub arm-length : (code k r : ℕ) → code ≡ k → r ≡ lengthOf k → r ≡ lengthOf code
+arm-length code k r e h = rw e h
+
+-- a code that is none of the seven
+module _ (code : ℕ) (p0 : code ≡ 0x30 → ⊥) (p1 : code ≡ 0x3A → ⊥) (p2 : code ≡ 0xA2 → ⊥) (p3 : code ≡ 0x60 → ⊥) (p4 : code ≡ 0x39 → ⊥) (p5 : code ≡ 0x1B → ⊥)
+    (p6 : code ≡ 0x50 → ⊥) where
+  pub other-length : 0 ≡ lengthOf code
+  other-length = simp (ne-eqb _ _ p0, ne-eqb _ _ p1, ne-eqb _ _ p2, ne-eqb _ _ p3, ne-eqb _ _ p4, ne-eqb _ _ p5, ne-eqb _ _ p6)
+
+  pub other-named : (f : List ℕ) → Unknown ≡ named f code
+  other-named f = simp (ne-eqb _ _ p0, ne-eqb _ _ p1, ne-eqb _ _ p2, ne-eqb _ _ p3, ne-eqb _ _ p4, ne-eqb _ _ p5, ne-eqb _ _ p6)
+
+module _ (f : List ℕ) (code n : ℕ) (e : code ≡ getD f 0 0) (l : n ≡ lengthOf code) where
+  pub known : (k : Command) → n ≡ length f → k ≡ named f code → k ≡ commandOf f
   unfolding commandOf
-  known k l h = rw (e, eq-eqb (length f) (lengthOf code) l) h
+  known k h q = rw (← e, eq-eqb (length f) (lengthOf code) (sym h ∙ l)) q
 
-  pub misfit : (length f ≡ lengthOf code → ⊥) → Unknown ≡ commandOf f
+  pub misfit : (n ≡ length f → ⊥) → Unknown ≡ commandOf f
   unfolding commandOf
-  misfit l = rw (e, ne-eqb (length f) (lengthOf code) l)
-
-pub unknown : (f : List ℕ) → (getD f 0 0 ≡ 0x30 → ⊥) → (getD f 0 0 ≡ 0x3A → ⊥) → (getD f 0 0 ≡ 0xA2 → ⊥) → (getD f 0 0 ≡ 0x60 → ⊥) → (getD f 0 0 ≡ 0x39 → ⊥)
-    → (getD f 0 0 ≡ 0x1B → ⊥) → (getD f 0 0 ≡ 0x50 → ⊥) → Unknown ≡ commandOf f
-unfolding commandOf lengthOf named
-unknown f p0 p1 p2 p3 p4 p5 p6 =
-    simp (ne-eqb _ _ p0, ne-eqb _ _ p1, ne-eqb _ _ p2, ne-eqb _ _ p3, ne-eqb _ _ p4, ne-eqb _ _ p5, ne-eqb _ _ p6) (same-either (eqb (length f) 0) Unknown)
-
-pub ruleset codes = (known, misfit, unknown)
+  misfit h = rw (← e, ne-eqb (length f) (lengthOf code) (λ q. h (l ∙ sym q)))
 
 -- ---- what it does
 

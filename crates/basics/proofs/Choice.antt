@@ -1,5 +1,5 @@
 -- The laws of choice: tests taken apart and put together, and what a function by cases gives. Assumes nothing.
-use mathlib.Core.Path.{_≡_, refl}
+use mathlib.Core.Path.{_≡_, refl, sym, _∙_}
 use mathlib.Core.Bool.{Bool, true, false, not, cond, _&&_}
 use Prim.Native.Nat.{ℕ}
 use native.Mathlib.Omega.{arith}
@@ -28,6 +28,9 @@ pub and-right : (a b : Bool) → (a && b) ≡ true → b ≡ true
 and-right true b e = e
 and-right false b e = never (let z : true ≡ false = cc in z)
 
+pub and-both : (a b : Bool) → a ≡ true → b ≡ true → (a && b) ≡ true
+and-both a b e h = rw (e, h)
+
 pub not-true : (a : Bool) → not a ≡ true → a ≡ false
 not-true true e = never (let z : true ≡ false = cc in z)
 not-true false e = refl
@@ -46,3 +49,7 @@ same-either false x = refl
 -- what a function by cases gives, where the case is known
 pub by-case : {A B : Type 0} (f : A → B) (s s′ : A) (r : B) → s ≡ s′ → r ≡ f s′ → r ≡ f s
 by-case f s s′ r e h = rw e h
+
+-- the value of a test that is held as a flag, where the flag's is known
+pub flag : (f t v : Bool) → f ≡ t → f ≡ v → t ≡ v
+flag f t v e h = sym e ∙ h

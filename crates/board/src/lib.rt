@@ -1,14 +1,14 @@
 // The tag's calls under C names, for a controller's firmware: include/corridor_tag.h declares them. Each is the call below it, with its
 // contract. `corridor_bus_event` stands in two_wire, where it is proved.
-use image::Size;
+use image::layout::Size;
 use radio::Answer;
-use radio::TagRecord;
+use tag::record::TagRecord;
 use two_wire::BusRecord;
 ghost use mathlib.Core.Path.{_≡_};
 ghost use lib.ListN.{length};
 ghost use Rattle.image.specs.Layout.{sizeOf};
 ghost use Rattle.tag.specs.State.{fieldOff};
-ghost use Rattle.radio.specs.Record.{recordOf, fieldLoss};
+ghost use Rattle.tag.specs.Record.{recordOf, fieldLoss};
 ghost use Rattle.radio.specs.Call.{called, Met};
 ghost use Rattle.two_wire.specs.Record.{atRest};
 ghost use Rattle.board.specs.Board.{pagesOf, answerRoom};
@@ -23,10 +23,10 @@ pub extern "C" fn corridor_field_off() -> TagRecord
 
 // The field is lost.
 #[no_mangle]
-pub extern "C" fn corridor_field_loss(held: TagRecord) -> TagRecord
-    ensures { λ r. ⌜ r ≡ fieldLoss held ⌝ }
+pub extern "C" fn corridor_field_loss(rec: TagRecord) -> TagRecord
+    ensures { λ r. ⌜ r ≡ fieldLoss rec ⌝ }
 {
-    radio::field_loss(held)
+    radio::field_loss(rec)
 }
 
 // A frame was heard.
@@ -34,14 +34,14 @@ pub extern "C" fn corridor_field_loss(held: TagRecord) -> TagRecord
 pub extern "C" fn corridor_frame(
     image: &mut [u8],
     answer: &mut [u8],
-    held: TagRecord,
+    rec: TagRecord,
     frame: &[u8],
     bits: usize,
     parity: bool,
 ) -> Answer
-    ensures { λ r. ⌜ Met (called (now (image .entry)) (length (now (answer .entry))) held (now (frame .entry)) bits parity) r (now (image .entry)) (now (image .exit)) (now (answer .entry)) (now (answer .exit)) ⌝ }
+    ensures { λ r. ⌜ Met (called (now (image .entry)) (length (now (answer .entry))) rec (now (frame .entry)) bits parity) r (now (image .entry)) (now (image .exit)) (now (answer .entry)) (now (answer .exit)) ⌝ }
 {
-    radio::frame(image, answer, held, frame, bits, parity)
+    radio::frame(image, answer, rec, frame, bits, parity)
 }
 
 // The bus record to begin with.
@@ -57,7 +57,7 @@ pub extern "C" fn corridor_bus_at_rest() -> BusRecord
 pub extern "C" fn corridor_pages(bytes: usize) -> usize
     ensures { λ r. ⌜ r ≡ pagesOf (sizeOf bytes) ⌝ }
 {
-    let size = image::size_of(bytes);
+    let size = image::layout::size_of(bytes);
     match size {
         Size::Pages(n) => n,
         Size::Unknown => 0,

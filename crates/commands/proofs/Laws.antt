@@ -2,35 +2,41 @@
 use mathlib.Core.Path.{_≡_, refl, sym, ap, _∙_}
 use mathlib.Core.Logic.{⊎-elim}
 use mathlib.Core.List.{List, [], _∷_}
-use mathlib.Core.Bool.{Bool, true, false, not, _||_, or-true}
-use Prim.Native.Nat.{ℕ, _+_, _*_, _-_, _≤_, _<_}
+use mathlib.Core.Bool.{Bool, true, false, _||_, or-true}
+use Prim.Native.Nat.{ℕ, _+_, _-_, _≤_, _<_}
 use native.Mathlib.Omega.{arith}
 use lib.Dec.{eqb, leb}
-use lib.ListN.{length, take, set}
-use lib.Seq.{set-split}
+use lib.ListN.{set}
+use mir.Val as val
+use mir.Syntax.{w8}
 use types.Run.{OneOf}
 use denote.Enum.Declared.{declared, tagOf}
 use borrow.Enum.Known.{lives-at}
 use borrow.Author.Tests.{leb-false, leb-true, ne-eqb, eq-eqb, le-leb, lt-leb}
-use Rattle.crc_a.specs.CrcA.{withCrc}
-use Rattle.image.specs.declared.Four.{Four}
-use Rattle.image.specs.declared.Region.{Region}
-use Rattle.image.specs.declared.Region.the-variants.{Capability, User}
+use Rattle.basics.proofs.Choice.{never, split}
+use Rattle.locks.specs.Locks.{isBit}
+use Rattle.locks.specs.declared.LockBit.{LockBit}
+use Rattle.image.specs.declared.layout.Four.{Four}
+use Rattle.image.specs.declared.layout.Region.{Region}
+use Rattle.image.specs.declared.layout.Region.the-variants.{Capability, User}
 use Rattle.image.specs.Layout.{pageAt, store, regionOf}
-use Rattle.image.specs.Settings.{auth0, counterOn, counterGuarded, authlim}
-use Rattle.image.specs.Write.{locked, write as stored}
+use Rattle.image.specs.Settings.{auth0, countReadable, authlim}
+use Rattle.image.specs.Write.{lockedBy, locked, written, write as stored}
 use Rattle.image.specs.Tail.{failed, withFailed}
-use Rattle.image.proofs.Region.{enum}
+use Rattle.image.proofs.layout.Region.{enum}
 use Rattle.image.proofs.Laws.{outside}
-use Rattle.tag.specs.declared.State.{State}
-use Rattle.tag.specs.declared.Tag.{Tag}
-use Rattle.tag.specs.declared.Step.{Step}
+use Rattle.tag.specs.declared.state.State.{State}
+use Rattle.tag.specs.declared.state.Tag.{Tag}
+use Rattle.tag.specs.declared.outcome.Step.{Step}
 use Rattle.tag.specs.State.{moved, halted, granted, authenticated}
-use Rattle.tag.specs.Outcome.{bitsOf, answerOf, over, apply, Did}
-use Rattle.tag.proofs.Laws.{Silent, Naks, answered}
-use Rattle.commands.specs.Commands.{underPassword, refusesIn, refuses, write, sizeCode, version, countReadable, readCount, limitReached, same, failing, accepted, rejected, pwdAuth, hlta}
+use Rattle.tag.specs.Outcome.{over, keep, put, apply, Did, Acks, Says}
+use Rattle.tag.proofs.Laws.{Silent, Naks, said, nak-after}
+use Rattle.commands.specs.Commands.{underPassword, refusesIn, refuses, write, sizeCode, version, readCount, limitReached, same, failing, wrongCounted, accepted, rejected, pwdAuth, hlta}
 
 -- ---- WRITE
+
+pub locked-asked : (n p : ℕ) (img : List ℕ) (l : LockBit) (r : Bool) → l ≡ lockedBy n img p → r ≡ isBit l → r ≡ locked n img p
+locked-asked n p img l r e h = rw e at h
 
 module _ (n : ℕ) (img : List ℕ) (t : Tag) (p : ℕ) where
   module _ (x first : ℕ) (e : x ≡ auth0 n img) (w : (first ≡ x) × (first < 256)) where
@@ -58,7 +64,6 @@ module _ (n : ℕ) (img : List ℕ) (t : Tag) (p : ℕ) where
   -- in the regions 2 and 3
   pub refuses-locked : (b r : Bool) (region : Region) → b ≡ underPassword n img t p → b ≡ false → region ≡ regionOf n p
       → OneOf (2 ∷ 3 ∷ []) (tagOf (declared enum) region) → r ≡ locked n img p → r ≡ refuses n img t p
-  unfolding refusesIn
   refuses-locked b r region e h f k q =
       ⊎-elim
       (λ i. refuses-by b r region Capability e h f (lives-at enum region 2 i .1) q)
@@ -67,74 +72,49 @@ module _ (n : ℕ) (img : List ℕ) (t : Tag) (p : ℕ) where
 
   -- a page that isn't refused is one of the n
   pub not-refused : (b : Bool) → b ≡ refuses n img t p → b ≡ false → p < n
-  unfolding refuses refusesIn
-  not-refused b e h = pick (leb n p) refl
-    where
-      pick : (s : Bool) → leb n p ≡ s → p < n
-      pick false f = leb-false n p f
-      pick true f =
-          let q : true ≡ false = sym (or-true (underPassword n img t p)) ∙ ap (λ (r : Region). underPassword n img t p || refusesIn r n img p) (outside n p (leb-true n p f)) ∙ sym e ∙ h in
-          let z : _≡_ {A = ℕ} 0 1 = cc in absurd (omega arith)
+  unfolding refuses
+  not-refused b e h =
+      split (leb n p)
+      (λ f. never (sym (or-true (underPassword n img t p)) ∙ ap (λ (r : Region). underPassword n img t p || refusesIn r n img p) (outside n p (leb-true n p f)) ∙ sym e ∙ h))
+      (λ f. leb-false n p f)
 
 module _ (n : ℕ) (img : List ℕ) (t : Tag) (a x : ℕ) (d : Four) (b : Bool) (before : List ℕ) (w : (a ≡ x) × (a < 256)) (e : b ≡ refuses n img t a) where
   pub write-refused : (r : Step) (after : List ℕ) → b ≡ true → Naks t 0 r before after → Did (write n img t x d) r img img before after
   unfolding write
   write-refused r after h naks = rw (← w .0, ← e, h) (naks img)
 
-  pub write-done : (image′ : List ℕ) → b ≡ false → image′ ≡ stored n img a d → 1024 ≤ length before
-      → Did (write n img t x d) (record { bits = 4; tag = t }) img image′ before (set before 0 0x0A)
-  unfolding write stored apply bitsOf answerOf over
-  write-done image′ h i room = rw (← w .0, ← e, h) (record { image = i; bits = refl; tag = refl; answer = set-split before 0 0x0A (omega arith) })
+  pub write-done : (r : Step) (image′ after : List ℕ) → b ≡ false → image′ ≡ stored n img a d → Acks t r before after → Did (write n img t x d) r img image′ before after
+  unfolding write stored apply
+  write-done r image′ after h i acks = rw (← w .0, ← e, h, i) (acks img (put a (written n a (pageAt img a) d)))
 
 -- ---- GET_VERSION
 
-pub version-done : (n : ℕ) (t : Tag) (bits : ℕ) (before mid whole after : List ℕ)
-    → mid ≡ over (0x00 ∷ 0x1D ∷ 0x04 ∷ 0x01 ∷ 0x01 ∷ 0x00 ∷ 0x00 ∷ 0x03 ∷ []) before → whole ≡ set mid 6 (sizeCode n)
-    → (bits ≡ 8 * (8 + 2)) × (after ≡ over (withCrc (take 8 whole)) whole)
-    → (img : List ℕ) → Did (version n t) (record { bits = bits; tag = t }) img img before after
+pub version-done : (n : ℕ) (t : Tag) (r : Step) (before mid whole after : List ℕ)
+    → mid ≡ over (0x00 ∷ 0x1D ∷ 0x04 ∷ 0x01 ∷ 0x01 ∷ 0x00 ∷ 0x00 ∷ 0x03 ∷ []) before → whole ≡ set mid 6 (sizeCode n) → Says 8 t r whole after
+    → (img : List ℕ) → Did (version n t) r img img before after
 unfolding version apply over
-version-done n t bits before mid whole after em es e img =
+version-done n t r before mid whole after em es s img =
     let bs : List ℕ = 0x00 ∷ 0x1D ∷ 0x04 ∷ 0x01 ∷ 0x01 ∷ 0x00 ∷ sizeCode n ∷ 0x03 ∷ [] in
-    let a = answered bs before whole after 8 bits refl (es ∙ ap (λ (l : List ℕ). set l 6 (sizeCode n)) em) e in
-    record { image = refl; bits = a .0; tag = refl; answer = a .1 }
+    said bs keep t r 8 img img before whole after refl (es ∙ ap (λ (l : List ℕ). set l 6 (sizeCode n)) em) s refl
 
 -- ---- READ_CNT
 
 module _ (n : ℕ) (img : List ℕ) (t : Tag) where
-  pub count-off : (b : Bool) → b ≡ counterOn n img → b ≡ false → false ≡ countReadable n img t
-  unfolding countReadable
-  count-off b e h = simp (← e, h)
-
-  pub count-open : (b g : Bool) → b ≡ counterOn n img → b ≡ true → g ≡ counterGuarded n img → g ≡ false → true ≡ countReadable n img t
-  unfolding countReadable
-  count-open b g e h f k = simp (← e, h, ← f, k)
-
-  pub count-guarded : (b g a : Bool) → b ≡ counterOn n img → b ≡ true → g ≡ counterGuarded n img → g ≡ true → a ≡ authenticated t → a ≡ countReadable n img t
-  unfolding countReadable
-  count-guarded b g a e h f k q = simp (← e, h, ← f, k, ← q) (twice a)
-    where
-      twice : (a : Bool) → a ≡ not (not a)
-      twice true = refl
-      twice false = refl
-
   pub count-else : (x : ℕ) (r : Step) (before after : List ℕ) → (x ≡ 0x02 → ⊥) → Naks t 0 r before after → Did (readCount n img t x) r img img before after
   unfolding readCount
   count-else x r before after ne naks = simp (ne-eqb x 0x02 ne) (naks img)
 
-  pub count-hidden : (x : ℕ) (b : Bool) (r : Step) (before after : List ℕ) → x ≡ 0x02 → b ≡ countReadable n img t → b ≡ false → Naks t 0 r before after
+  pub count-hidden : (x : ℕ) (a b : Bool) (r : Step) (before after : List ℕ) → x ≡ 0x02 → a ≡ authenticated t → b ≡ countReadable n img a → b ≡ false → Naks t 0 r before after
       → Did (readCount n img t x) r img img before after
   unfolding readCount
-  count-hidden x b r before after q e h naks = rw (q, ← e, h) (naks img)
+  count-hidden x a b r before after q g e h naks = rw (q, ← g, ← e, h) (naks img)
 
-  pub count-shown : (x : ℕ) (b : Bool) (tail : Four) (bits : ℕ) (before mid after : List ℕ) → x ≡ 0x02 → b ≡ countReadable n img t → b ≡ true → tail ≡ pageAt img n
-      → mid ≡ over (tail .b0 ∷ tail .b1 ∷ tail .b2 ∷ []) before → (bits ≡ 8 * (3 + 2)) × (after ≡ over (withCrc (take 3 mid)) mid)
-      → Did (readCount n img t x) (record { bits = bits; tag = t }) img img before after
+  pub count-shown : (x : ℕ) (a b : Bool) (tail : Four) (r : Step) (before mid after : List ℕ) → x ≡ 0x02 → a ≡ authenticated t → b ≡ countReadable n img a → b ≡ true
+      → tail ≡ pageAt img n → mid ≡ over (tail .b0 ∷ tail .b1 ∷ tail .b2 ∷ []) before → Says 3 t r mid after → Did (readCount n img t x) r img img before after
   unfolding readCount apply pageAt
-  count-shown x b tail bits before mid after q e h f em d =
-      let bs = tail .b0 ∷ tail .b1 ∷ tail .b2 ∷ [] in
-      let a = answered bs before mid after 3 bits refl em d in
-      rw (q, ← e, h, ← ap (λ (v : Four). v .b0) f, ← ap (λ (v : Four). v .b1) f, ← ap (λ (v : Four). v .b2) f)
-      (record { image = refl; bits = a .0; tag = refl; answer = a .1 })
+  count-shown x a b tail r before mid after q g e h f em s =
+      rw (q, ← g, ← e, h, ← ap (λ (v : Four). v .b0) f, ← ap (λ (v : Four). v .b1) f, ← ap (λ (v : Four). v .b2) f)
+      (said (tail .b0 ∷ tail .b1 ∷ tail .b2 ∷ []) keep t r 3 img img before mid after refl em s refl)
 
 -- ---- PWD_AUTH
 
@@ -147,9 +127,9 @@ module _ (n : ℕ) (img : List ℕ) (limit : ℕ) (e : (limit ≡ authlim n img)
   unfolding limitReached
   limit-asked k ne f = simp (← e .0, ← f, ne-eqb limit 0 ne)
 
-  -- below the limit the failed count has room for one more
-  pub below-limit : (k : ℕ) → (limit ≡ 0 → ⊥) → k ≡ failed n img → limitReached n img ≡ false → k < 8
-  below-limit k ne f h = let l = leb-false limit k (limit-asked k ne f ∙ h) in omega arith
+-- below the limit the failed count has room for one more
+pub one-more-fits : (n k limit : ℕ) (img : List ℕ) → k ≡ failed n img → (limit ≡ authlim n img) × (limit < 8) → (limit ≡ 0 → ⊥) → limitReached n img ≡ false → val.Fits w8 (k + 1)
+one-more-fits n k limit img f e ne h = let l = leb-false limit k (limit-asked n img limit e k ne f ∙ h) in omega arith
 
 module _ (p q : Four) where
   pub same-first : (p .b0 ≡ q .b0 → ⊥) → false ≡ same p q
@@ -168,28 +148,26 @@ module _ (p q : Four) where
   unfolding same
   same-last a b c = simp (eq-eqb _ _ a, eq-eqb _ _ b, eq-eqb _ _ c)
 
+module _ (n : ℕ) (img : List ℕ) (limit : ℕ) (e : (limit ≡ authlim n img) × (limit < 8)) where
+  pub wrong-free : limit ≡ 0 → img ≡ apply img (wrongCounted n img)
+  unfolding wrongCounted apply
+  wrong-free z = rw (← e .0, z)
+
+  pub wrong-counted : (k : ℕ) (image′ : List ℕ) → (limit ≡ 0 → ⊥) → k ≡ failed n img → image′ ≡ store img n (withFailed (k + 1) (pageAt img n)) → image′ ≡ apply img (wrongCounted n img)
+  unfolding wrongCounted failing apply
+  wrong-counted k image′ ne f h = rw (← e .0, ne-eqb limit 0 ne, ← f) h
+
 module _ (n : ℕ) (img : List ℕ) (t : Tag) where
-  pub accepted-done : (pack : Four) (t′ : Tag) (s : State) (bits : ℕ) (before mid after image′ : List ℕ) → pack ≡ pageAt img (n - 1)
-      → mid ≡ over (pack .b0 ∷ pack .b1 ∷ []) before → (bits ≡ 8 * (2 + 2)) × (after ≡ over (withCrc (take 2 mid)) mid)
-      → image′ ≡ store img n (withFailed 0 (pageAt img n)) → s ≡ granted (t .state) → t′ ≡ moved t s
-      → Did (accepted n img t) (record { bits = bits; tag = t′ }) img image′ before after
+  pub accepted-done : (pack : Four) (t′ : Tag) (s : State) (r : Step) (before mid after image′ : List ℕ) → pack ≡ pageAt img (n - 1)
+      → mid ≡ over (pack .b0 ∷ pack .b1 ∷ []) before → image′ ≡ store img n (withFailed 0 (pageAt img n)) → s ≡ granted (t .state) → t′ ≡ moved t s
+      → Says 2 t′ r mid after → Did (accepted n img t) r img image′ before after
   unfolding accepted failing apply pageAt
-  accepted-done pack t′ s bits before mid after image′ f em d i q g =
-      let bs = pack .b0 ∷ pack .b1 ∷ [] in
-      let a = answered bs before mid after 2 bits refl em d in
-      rw (← ap (λ (v : Four). v .b0) f, ← ap (λ (v : Four). v .b1) f) (record { image = i; bits = a .0; tag = g ∙ ap (moved t) q; answer = a .1 })
+  accepted-done pack t′ s r before mid after image′ f em i q g d =
+      rw (← ap (λ (v : Four). v .b0) f, ← ap (λ (v : Four). v .b1) f, ← q, ← g) (said (pack .b0 ∷ pack .b1 ∷ []) (failing n img 0) t′ r 2 img image′ before mid after refl em d i)
 
-  module _ (limit : ℕ) (r : Step) (before after : List ℕ) (e : (limit ≡ authlim n img) × (limit < 8)) (naks : Naks t 0 r before after) where
-    pub rejected-free : limit ≡ 0 → Did (rejected n img t) r img img before after
-    unfolding rejected
-    rejected-free z = rw (← e .0, z) (naks img)
-
-    pub rejected-counted : (k : ℕ) (image′ : List ℕ) → (limit ≡ 0 → ⊥) → k ≡ failed n img → image′ ≡ store img n (withFailed (k + 1) (pageAt img n))
-        → Did (rejected n img t) r img image′ before after
-    unfolding rejected failing apply
-    rejected-counted k image′ ne f i =
-        let d = naks img in
-        rw (← e .0, ne-eqb limit 0 ne, ← f) (record { image = i; bits = d .bits; tag = d .tag; answer = d .answer })
+  pub rejected-done : (r : Step) (image′ before after : List ℕ) → image′ ≡ apply img (wrongCounted n img) → Naks t 0 r before after → Did (rejected n img t) r img image′ before after
+  unfolding rejected
+  rejected-done r image′ before after i naks = nak-after (wrongCounted n img) t 0 r img image′ before after naks i
 
   module _ (p : Four) (b : Bool) (r : Step) (before after : List ℕ) (e : b ≡ limitReached n img) where
     pub auth-limited : b ≡ true → Naks t 0 r before after → Did (pwdAuth n img t p) r img img before after

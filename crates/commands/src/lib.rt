@@ -1,33 +1,41 @@
 // What WRITE, GET_VERSION, READ_CNT, PWD_AUTH and HLTA do.
-use image::Four;
-use image::Region;
-use tag::Step;
-use tag::Tag;
+use basics::to_usize;
+use image::layout::Four;
+use image::layout::Region;
+use tag::outcome::Step;
+use tag::outcome::ack;
+use tag::outcome::lay;
+use tag::outcome::nak;
+use tag::outcome::says;
+use tag::outcome::silent;
+use tag::state::Tag;
 ghost use mathlib.Core.Path.{_≡_};
 ghost use mathlib.Core.Bool.{false};
 ghost use mathlib.Core.List.{List};
 ghost use Prim.Native.Nat.{ℕ, _+_, _≤_, _<_};
 ghost use lib.ListN.{length, set};
 ghost use Rattle.image.specs.Layout.{Fits};
-ghost use Rattle.tag.specs.Outcome.{Did, Room};
-ghost use Rattle.commands.specs.Commands.{underPassword, refuses, write, sizeCode, version, countReadable, readCount, limitReached, same, accepted, rejected, pwdAuth, hlta};
-
-fn wide(b: u8) -> usize
-    ensures { λ r. ⌜ (r ≡ b) × (r < 256) ⌝ }
-{
-    b as usize
-}
+ghost use Rattle.image.specs.Write.{locked};
+ghost use Rattle.tag.specs.Outcome.{apply, Did, Room};
+ghost use Rattle.commands.specs.Commands.{underPassword, refuses, write, sizeCode, version, readCount, limitReached, same, wrongCounted, accepted, rejected, pwdAuth, hlta};
 
 // Whether a page is under password.
 fn under_password(image: &[u8], n: usize, tag: Tag, page: usize) -> bool
     requires { ⌜ Fits n (now image) ⌝ }
     ensures { λ r. ⌜ r ≡ underPassword n (now (image .entry)) tag page ⌝ }
 {
-    if wide(image::auth0(image, n)) <= page {
+    if to_usize(image::settings::auth0(image, n)) <= page {
         if tag.authenticated() { false } else { true }
     } else {
         false
     }
+}
+
+fn is_locked(image: &[u8], n: usize, page: usize) -> bool
+    requires { ⌜ Fits n (now image) ⌝ }
+    ensures { λ r. ⌜ r ≡ locked n (now (image .entry)) page ⌝ }
+{
+    locks::is_bit(image::write::locked_by(image, n, page))
 }
 
 // Whether a WRITE to a page is refused.
@@ -38,14 +46,14 @@ fn refuses(image: &[u8], n: usize, tag: Tag, page: usize) -> bool
     if under_password(image, n, tag, page) {
         return true;
     }
-    let region = image::region_of(n, page);
+    let region = image::layout::region_of(n, page);
     match region {
         Region::Uid => true,
         Region::StaticLocks => false,
         // One call for both: the compiler then puts it in line.
-        Region::Capability | Region::User => image::is_locked(image, n, page),
+        Region::Capability | Region::User => is_locked(image, n, page),
         Region::DynamicLocks => false,
-        Region::Settings => image::settings_locked(image, n),
+        Region::Settings => image::settings::settings_locked(image, n),
         Region::Password => false,
         Region::Outside => true,
     }
@@ -55,13 +63,12 @@ pub fn write(image: &mut [u8], answer: &mut [u8], n: usize, tag: Tag, a: u8, d: 
     requires { ⌜ Room n (now image) (now answer) ⌝ }
     ensures { λ r. ⌜ Did (write n (now (image .entry)) tag a d) r (now (image .entry)) (now (image .exit)) (now (answer .entry)) (now (answer .exit)) ⌝ }
 {
-    let page = wide(a);
+    let page = to_usize(a);
     if refuses(image, n, tag, page) {
-        return tag::nak(answer, tag, 0);
+        return nak(answer, tag, 0);
     }
-    image::write(image, n, page, d);
-    answer[0] = 0x0A;
-    Step { bits: 4, tag }
+    image::write::write(image, n, page, d);
+    ack(answer, tag)
 }
 
 fn size_code(n: usize) -> u8
@@ -85,26 +92,9 @@ pub fn version(answer: &mut [u8], n: usize, tag: Tag) -> Step
     requires { ⌜ 1024 ≤ length (now answer) ⌝ }
     ensures { λ r. ⌜ ((img : List ℕ) → Did (version n tag) r img img (now (answer .entry)) (now (answer .exit))) ⌝ }
 {
-    tag::lay(answer, b"\x00\x1D\x04\x01\x01\x00\x00\x03");
+    lay(answer, b"\x00\x1D\x04\x01\x01\x00\x00\x03");
     set_size_code(answer, n);
-    let bits = tag::finish(answer, 8);
-    Step { bits, tag }
-}
-
-// Whether READ_CNT may show the counter.
-fn count_readable(image: &[u8], n: usize, tag: Tag) -> bool
-    requires { ⌜ Fits n (now image) ⌝ }
-    ensures { λ r. ⌜ r ≡ countReadable n (now (image .entry)) tag ⌝ }
-{
-    if image::counter_on(image, n) {
-        if image::counter_guarded(image, n) {
-            tag.authenticated()
-        } else {
-            true
-        }
-    } else {
-        false
-    }
+    says(answer, 8, tag)
 }
 
 pub fn read_count(image: &[u8], answer: &mut [u8], n: usize, tag: Tag, x: u8) -> Step
@@ -112,16 +102,15 @@ pub fn read_count(image: &[u8], answer: &mut [u8], n: usize, tag: Tag, x: u8) ->
     ensures { λ r. ⌜ Did (readCount n (now (image .entry)) tag x) r (now (image .entry)) (now (image .entry)) (now (answer .entry)) (now (answer .exit)) ⌝ }
 {
     if x != 0x02 {
-        return tag::nak(answer, tag, 0);
+        return nak(answer, tag, 0);
     }
-    if count_readable(image, n, tag) {
-        let tail = image::page_at(image, n);
+    if image::settings::count_readable(image, n, tag.authenticated()) {
+        let tail = image::layout::page_at(image, n);
         let counter = [tail.b0, tail.b1, tail.b2];
-        tag::lay(answer, &counter);
-        let bits = tag::finish(answer, 3);
-        Step { bits, tag }
+        lay(answer, &counter);
+        says(answer, 3, tag)
     } else {
-        tag::nak(answer, tag, 0)
+        nak(answer, tag, 0)
     }
 }
 
@@ -129,11 +118,11 @@ fn limit_reached(image: &[u8], n: usize) -> bool
     requires { ⌜ Fits n (now image) ⌝ }
     ensures { λ r. ⌜ r ≡ limitReached n (now (image .entry)) ⌝ }
 {
-    let limit = image::authlim(image, n);
+    let limit = image::settings::authlim(image, n);
     if limit == 0 {
         false
     } else {
-        limit <= image::failed(image, n)
+        limit <= image::tail::failed(image, n)
     }
 }
 
@@ -155,30 +144,33 @@ fn accepted(image: &mut [u8], answer: &mut [u8], n: usize, tag: Tag) -> Step
     requires { ⌜ Room n (now image) (now answer) ⌝ }
     ensures { λ r. ⌜ Did (accepted n (now (image .entry)) tag) r (now (image .entry)) (now (image .exit)) (now (answer .entry)) (now (answer .exit)) ⌝ }
 {
-    let pack = image::page_at(image, n - 1);
+    let pack = image::layout::page_at(image, n - 1);
     let first = [pack.b0, pack.b1];
-    tag::lay(answer, &first);
-    let bits = tag::finish(answer, 2);
-    image::set_failed(image, n, 0);
+    lay(answer, &first);
+    image::tail::set_failed(image, n, 0);
     let state = tag.state;
-    Step {
-        bits,
-        tag: tag.moved(state.granted()),
-    }
+    says(answer, 2, tag.moved(state.granted()))
 }
 
-// A wrong password.
+// A wrong password counts where there is a limit.
+fn count_wrong(image: &mut [u8], n: usize)
+    requires { ⌜ Fits n (now image) × (limitReached n (now image) ≡ false) ⌝ }
+    ensures { λ _. ⌜ now (image .exit) ≡ apply (now (image .entry)) (wrongCounted n (now (image .entry))) ⌝ }
+{
+    let limit = image::settings::authlim(image, n);
+    if limit == 0 {
+        return;
+    }
+    let failed = image::tail::failed(image, n);
+    image::tail::set_failed(image, n, failed + 1);
+}
+
 fn rejected(image: &mut [u8], answer: &mut [u8], n: usize, tag: Tag) -> Step
     requires { ⌜ Room n (now image) (now answer) × (limitReached n (now image) ≡ false) ⌝ }
     ensures { λ r. ⌜ Did (rejected n (now (image .entry)) tag) r (now (image .entry)) (now (image .exit)) (now (answer .entry)) (now (answer .exit)) ⌝ }
 {
-    let limit = image::authlim(image, n);
-    if limit == 0 {
-        return tag::nak(answer, tag, 0);
-    }
-    let failed = image::failed(image, n);
-    image::set_failed(image, n, failed + 1);
-    tag::nak(answer, tag, 0)
+    count_wrong(image, n);
+    nak(answer, tag, 0)
 }
 
 pub fn pwd_auth(image: &mut [u8], answer: &mut [u8], n: usize, tag: Tag, p: Four) -> Step
@@ -186,9 +178,9 @@ pub fn pwd_auth(image: &mut [u8], answer: &mut [u8], n: usize, tag: Tag, p: Four
     ensures { λ r. ⌜ Did (pwdAuth n (now (image .entry)) tag p) r (now (image .entry)) (now (image .exit)) (now (answer .entry)) (now (answer .exit)) ⌝ }
 {
     if limit_reached(image, n) {
-        return tag::nak(answer, tag, 0);
+        return nak(answer, tag, 0);
     }
-    let pwd = image::page_at(image, n - 2);
+    let pwd = image::layout::page_at(image, n - 2);
     if same(p, pwd) {
         accepted(image, answer, n, tag)
     } else {
@@ -202,8 +194,8 @@ pub fn hlta(answer: &mut [u8], tag: Tag, x: u8) -> Step
 {
     if x == 0x00 {
         let state = tag.state;
-        tag::silent(tag.moved(state.halted()))
+        silent(tag.moved(state.halted()))
     } else {
-        tag::nak(answer, tag, 0)
+        nak(answer, tag, 0)
     }
 }

@@ -1,40 +1,43 @@
 -- Laws of the corridor program: parts of buffers that are lent, and what each command leaves. Assumes nothing.
-use Prim.Native.Nat.{ℕ, _+_, _-_, _*_, _≤_}
+use Prim.Native.Nat.{ℕ, _+_, _-_, _*_, _<_, _≤_}
 use mathlib.Core.Path.{_≡_, refl, sym, ap, subst, subst⁻¹, _∙_}
 use mathlib.Core.Bool.{Bool, true, false, cond}
-use mathlib.Core.List.{List, _++_}
+use mathlib.Core.List.{List}
 use native.Mathlib.Omega.{arith}
-use lib.ListN.{length, take, drop, length-take}
+use lib.ListN.{length, take, drop, getD, length-take}
 use lib.Seq.{take-at, take-take}
 use borrow.Author.Tests.{eq-eqb, ne-eqb}
 use borrow.Rule.Slice.PartMut.{putMid}
-use Rattle.image.specs.declared.Size.{Size}
-use Rattle.image.specs.declared.Size.the-variants.{Pages, Unknown}
+use Rattle.image.specs.declared.layout.Size.{Size}
+use Rattle.image.specs.declared.layout.Size.the-variants.{Pages, Unknown}
 use Rattle.image.specs.Layout.{sizeOf}
 use Rattle.tag.specs.Outcome.{Reply, bitsOf, answerOf, over}
 use Rattle.tag.specs.State.{fieldOff}
 use Rattle.tag.proofs.Laws.{answer-bytes}
-use Rattle.radio.specs.declared.TagRecord.{TagRecord}
-use Rattle.radio.specs.declared.Answer as radio
-use Rattle.radio.specs.Record.{recordOf, fieldLoss}
+use Rattle.tag.specs.declared.record.TagRecord.{TagRecord}
+use Rattle.radio.specs.declared.call.Answer as radio
+use Rattle.tag.specs.Record.{recordOf, fieldLoss}
 use Rattle.radio.specs.Call.{Called, called, Met}
-use Rattle.two_wire.specs.declared.BusRecord.{BusRecord}
-use Rattle.two_wire.specs.declared.BusAnswer.{BusAnswer}
-use Rattle.two_wire.specs.declared.BusStep.{BusStep}
+use Rattle.two_wire.specs.declared.record.BusRecord.{BusRecord}
+use Rattle.two_wire.specs.declared.answer.BusAnswer.{BusAnswer}
+use Rattle.two_wire.specs.declared.event.BusStep.{BusStep}
 use Rattle.two_wire.specs.Record.{atRest}
-use Rattle.two_wire.specs.Step.{byEvent, bySize, does, Did}
-use Rattle.lines.proofs.Saying.{front}
-use Rattle.lines.specs.declared.read.Command.{Command}
-use Rattle.lines.specs.declared.read.Command.the-variants.{Image, Buffer, Frame}
+use Rattle.two_wire.specs.Event.{byEvent, bySize, does, Did}
+use Rattle.words.specs.declared.args.Verdict.{Verdict}
+use Rattle.words.specs.declared.args.Verdict.the-variants as verdict
+use Rattle.words.specs.Args.{given, judged, saidBy}
+use Rattle.laying.specs.Parts.{word, lineText, Laid, Line}
+use Rattle.laying.proofs.Laying.{front}
+use Rattle.lines.specs.declared.read.Verb.{Verb}
+use Rattle.lines.specs.declared.read.Verb.the-variants as verb
+use Rattle.lines.specs.declared.read.Asked.{Asked}
 use Rattle.lines.specs.declared.write.Answer.{Answer}
 use Rattle.lines.specs.declared.write.Answer.the-variants as answer
-use Rattle.lines.specs.Bounds.{CommandFits, AnswerFits}
-use Rattle.lines.specs.Laid.{Laid}
-use Rattle.lines.specs.Said.{says, saidOf, isSkipped}
+use Rattle.lines.specs.Said.{verbOf, saidOf, isSkipped, Fits, AskedFits}
 use Rattle.lines.specs.Told as told
-use Rattle.lines.specs.Told.{Told, textOf, newline, bytesIn, tells, Line}
-use Rattle.corridor.specs.Played.{Board, opening, takes, lends, loses, replyTold, callTold, hears, kindTold, eventTold, sees, played, answerTo, boardAfter}
-use Rattle.corridor.specs.Held.{boardOf, Within, Acts, Answers}
+use Rattle.lines.specs.Told.{Told, partsOf, bytesIn, tells, AnswerFits}
+use Rattle.corridor.specs.Played.{Board, opening, takes, lends, loses, replyTold, callTold, hears, kindTold, eventTold, sees, obeyed, played, answerTo, boardAfter}
+use Rattle.corridor.specs.Session.{boardOf, Within, Acts, Answers}
 use Rattle.corridor.specs.declared.session.Session.{Session}
 use Rattle.corridor.specs.declared.session.Acted.{Acted}
 
@@ -75,7 +78,7 @@ pub opened : (tag : TagRecord) (bus : BusRecord) → tag ≡ recordOf fieldOff �
 opened tag bus e f img = rw (e, f)
 
 pub took : (session : Session) (tag : TagRecord) (bus : BusRecord) (sent img img′ : List ℕ) (n size : ℕ) → tag ≡ recordOf fieldOff → bus ≡ atRest
-    → size ≡ 0 + n → n ≤ 1024 → length sent ≡ 8192 → Laid (take n sent) 0 size img img′ → Within session → (buf : List ℕ)
+    → size ≡ 0 + n → n ≤ 1024 → length sent ≡ 8192 → Laid (word (take n sent)) 0 size img img′ → Within session → (buf : List ℕ)
     → Acts (takes (boardOf session img) (take n sent)) (record { session = record { size = size; lent = session .lent; tag = tag; bus = bus }; told = answer.Taken size }) img′ buf
 unfolding takes
 took session tag bus sent img img′ n size e f s h l d w buf =
@@ -83,7 +86,7 @@ took session tag bus sent img img′ n size e f s h l d w buf =
     let p : size ≡ length (take n sent) = omega arith in
     record {
       within = record { size = omega arith; lent = w .lent };
-      fits = omega arith;
+      fits = tt;
       board = rw (e, f, d .front);
       told = ap told.taken p;
     }
@@ -91,7 +94,7 @@ took session tag bus sent img img′ n size e f s h l d w buf =
 pub lent-out : (session : Session) (n : ℕ) → n ≤ 1024 → Within session → (img buf : List ℕ)
     → Acts (lends (boardOf session img) n) (record { session = record { size = session .size; lent = n; tag = session .tag; bus = session .bus }; told = answer.Lent n }) img buf
 unfolding lends
-lent-out session n h w img buf = record { within = record { size = w .size; lent = h }; fits = h; board = refl; told = refl }
+lent-out session n h w img buf = record { within = record { size = w .size; lent = h }; fits = tt; board = refl; told = refl }
 
 pub field-lost : (session : Session) (tag : TagRecord) → tag ≡ fieldLoss (session .tag) → Within session → (img buf : List ℕ)
     → Acts (loses (boardOf session img)) (record { session = record { size = session .size; lent = session .lent; tag = tag; bus = session .bus }; told = answer.Lost }) img buf
@@ -198,26 +201,57 @@ see-done session img img′ number small byte step told w d e f t buf =
     record {
       within = record { size = w .size; lent = w .lent };
       fits = f;
-      board = rw (d′ .image, ap (λ (x : BusStep). x .bus) (d′ .step));
-      told = t buf img′ ∙ ap (λ (x : BusStep). eventTold (x .answer)) (d′ .step);
+      board = rw (d′ .image, d′ .bus);
+      told = t buf img′ ∙ ap eventTold (d′ .answer);
     }
 
 -- ---- lines
 
-module _ {command : Command} (w : CommandFits command) where
-  pub image-fits : {n : ℕ} → command ≡ Image n → n ≤ 1024
-  image-fits e = subst CommandFits e w
+module _ (asked : Asked) (f : AskedFits asked) where
+  abbrev first : ℕ
+  first = getD (asked .given .numbers) 0 0
 
-  pub buffer-fits : {n : ℕ} → command ≡ Buffer n → n ≤ 1024
-  buffer-fits e = subst CommandFits e w
+  verb-fits : (k : Verb) → asked .verb ≡ k → Fits k (asked .given)
+  verb-fits k e = subst (λ (v : Verb). Fits v (asked .given)) e (f .verb)
 
-  pub frame-fits : {bits n : ℕ} {good : Bool} → command ≡ Frame bits n good → n ≤ 8192
-  frame-fits e = subst CommandFits e w
+  pub image-fits : asked .verb ≡ verb.Image → asked .given .end ≤ 1024
+  image-fits e = verb-fits verb.Image e
+
+  pub buffer-fits : asked .verb ≡ verb.Buffer → first ≤ 1024
+  buffer-fits e = verb-fits verb.Buffer e
+
+  pub send-fits : asked .verb ≡ verb.Send → first < 256
+  send-fits e = let h : first ≤ 255 = verb-fits verb.Send e in omega arith
+
+  pub read-fits : asked .verb ≡ verb.Read → 3 + first < 18446744073709551616
+  read-fits e = let h : first ≤ 1 = verb-fits verb.Read e in omega arith
+
+  pub event-fits : asked .verb ≡ verb.Event → getD (asked .given .numbers) 1 0 < 256
+  event-fits e = let h : getD (asked .given .numbers) 1 0 ≤ 255 = verb-fits verb.Event e in omega arith
 
 -- a command that is known to be one of the commands
-pub acted-by : (b : Board) (sent img buf : List ℕ) (command k : Command) (r : Acted) → command ≡ k → Acts (played b (says k sent)) r img buf
-    → Acts (played b (says command sent)) r img buf
-acted-by b sent img buf command k r e a = rw e a
+pub obeyed-by : (b : Board) (v k : Verb) (n m : ℕ) (xs img buf : List ℕ) (r : Acted) → v ≡ k → Acts (obeyed b k n m xs) r img buf
+    → Acts (obeyed b v n m xs) r img buf
+obeyed-by b v k n m xs img buf r e a = subst⁻¹ (λ (x : Verb). Acts (obeyed b x n m xs) r img buf) e a
+
+-- a line that is known to be good, or not
+module _ (b : Board) (asked : Asked) (sent img buf : List ℕ) (r : Acted) where
+  abbrev numbers : List ℕ
+  numbers = asked .given .numbers
+
+  pub judged-by : (k : Verdict) → asked .given .verdict ≡ k
+      → Acts (played b (asked .verb) (judged k (given (take (asked .given .count) numbers) (take (asked .given .end) sent)))) r img buf
+      → Acts (played b (asked .verb) (saidBy (asked .given) sent)) r img buf
+  judged-by k e a =
+      subst⁻¹ (λ (x : Verdict). Acts (played b (asked .verb) (judged x (given (take (asked .given .count) numbers) (take (asked .given .end) sent)))) r img buf) e a
+
+  pub acted-on : AskedFits asked → asked .given .verdict ≡ verdict.Good
+      → Acts (obeyed b (asked .verb) (getD numbers 0 0) (getD numbers 1 0) (take (asked .given .end) sent)) r img buf
+      → Acts (played b (asked .verb) (saidBy (asked .given) sent)) r img buf
+  acted-on f e a =
+      judged-by verdict.Good e
+      (subst⁻¹ (λ (n : ℕ). Acts (obeyed b (asked .verb) n (getD (take (asked .given .count) numbers) 1 0) (take (asked .given .end) sent)) r img buf) (f .numbers 0)
+      (subst⁻¹ (λ (m : ℕ). Acts (obeyed b (asked .verb) (getD numbers 0 0) m (take (asked .given .end) sent)) r img buf) (f .numbers 1) a))
 
 pub responded-nothing : (session : Session) (img line out : List ℕ) (b : Bool) → Within session → b ≡ isSkipped line → b ≡ true
     → Answers (boardOf session img) line (record { session = session; length = 0 }) img out
@@ -225,18 +259,18 @@ unfolding answerTo boardAfter
 responded-nothing session img line out b w e t =
     record { within = record { size = w .size; lent = w .lent }; room = omega arith; board = rw (← e, t); text = rw (← e, t) }
 
-pub responded : (session : Session) (command : Command) (acted : Acted) (img img′ buf sent line out : List ℕ) (r : ℕ) (b : Bool)
+pub responded : (session : Session) (asked : Asked) (acted : Acted) (img img′ buf sent line out : List ℕ) (r : ℕ) (b : Bool)
     → b ≡ isSkipped line → b ≡ false
-    → says command sent ≡ saidOf line
-    → Acts (played (boardOf session img) (says command sent)) acted img′ buf
+    → (asked .verb ≡ verbOf line) × (saidBy (asked .given) sent ≡ saidOf line)
+    → Acts (played (boardOf session img) (asked .verb) (saidBy (asked .given) sent)) acted img′ buf
     → r ≤ 2080
-    → Line (textOf (tells (acted .told) buf img′)) r out
+    → Line (partsOf (tells (acted .told) buf img′)) r out
     → Answers (boardOf session img) line (record { session = acted .session; length = r }) img′ out
 unfolding answerTo boardAfter
-responded session command acted img img′ buf sent line out r b e f s a room l =
+responded session asked acted img img′ buf sent line out r b e f (v, s) a room l =
     record {
       within = a .within;
       room = room;
-      board = rw (← e, f, ← s) (a .board);
-      text = rw (← e, f, ← s) (l .whole ∙ ap (λ (t : Told). textOf t ++ newline) (a .told));
+      board = rw (← e, f, ← s, ← v) (a .board);
+      text = rw (← e, f, ← s, ← v) (l .whole ∙ ap (λ (t : Told). lineText (partsOf t)) (a .told));
     }

@@ -1,21 +1,26 @@
 -- What the corridor program does with a line: the table of the lines, over the definitions of the tag. Assumes nothing.
-use Prim.Native.Nat.{ℕ}
-use mathlib.Core.Bool.{Bool, cond}
-use mathlib.Core.List.{List, [], _++_}
+use Prim.Native.Nat.{ℕ, _+_}
+use mathlib.Core.Bool.{Bool, true, false, cond}
+use mathlib.Core.List.{List, []}
 use lib.Dec.{eqb}
-use lib.ListN.{length}
+use lib.ListN.{length, getD}
 use Rattle.tag.specs.Outcome.{Reply, bitsOf, answerOf, apply}
 use Rattle.tag.specs.State.{fieldOff}
-use Rattle.radio.specs.declared.TagRecord.{TagRecord}
-use Rattle.radio.specs.Record.{recordOf, fieldLoss}
+use Rattle.tag.specs.declared.record.TagRecord.{TagRecord}
+use Rattle.tag.specs.Record.{recordOf, fieldLoss}
 use Rattle.radio.specs.Call.{Called, called}
-use Rattle.two_wire.specs.declared.BusRecord.{BusRecord}
-use Rattle.two_wire.specs.declared.BusAnswer.{BusAnswer}
+use Rattle.two_wire.specs.declared.record.BusRecord.{BusRecord}
+use Rattle.two_wire.specs.declared.answer.BusAnswer.{BusAnswer}
 use Rattle.two_wire.specs.Record.{atRest}
-use Rattle.two_wire.specs.Step.{after, does}
-use Rattle.lines.specs.Said.{Said, image, buffer, field, frame, event, show, help, wrong, saidOf, isSkipped}
+use Rattle.two_wire.specs.Answer as wires
+use Rattle.two_wire.specs.Event.{after, does}
+use Rattle.words.specs.Args.{Said, given, unknown, wrong, long}
+use Rattle.laying.specs.Parts.{lineText}
+use Rattle.lines.specs.declared.read.Verb.{Verb}
+use Rattle.lines.specs.declared.read.Verb.the-variants as verb
+use Rattle.lines.specs.Said.{verbOf, saidOf, isSkipped}
 use Rattle.lines.specs.Told as told
-use Rattle.lines.specs.Told.{Told, textOf, newline}
+use Rattle.lines.specs.Told.{Told, partsOf}
 
 -- what is kept from line to line
 pub record Board : Type 0 where
@@ -77,28 +82,40 @@ unfoldable pub sees : Board → ℕ → ℕ → Played
 sees b number byte =
     let o = does (b .image) (b .bus) number byte in
     record {
-      board = record { image = after (b .image) (o .effect); lent = b .lent; tag = b .tag; bus = o .step .bus };
-      told = eventTold (o .step .answer);
+      board = record { image = after (b .image) (o .effect); lent = b .lent; tag = b .tag; bus = o .bus };
+      told = eventTold (wires.answerOf (o .reply));
     }
 
 abbrev pub answers : Board → Told → Played
 answers b t = record { board = b; told = t }
 
--- each line of the table; "Any other line .. is answered by `error` and changes nothing."
-abbrev pub played : Board → Said → Played
-played b (image xs) = takes b xs
-played b (buffer n) = lends b n
-played b field = loses b
-played b (frame bits xs parity) = hears b bits xs parity
-played b (event number byte) = sees b number byte
-played b show = answers b (told.shown (b .image))
-played b help = answers b told.help
-played b wrong = answers b told.error
+-- each line of the table: n and m are its first two numbers, and xs are its bytes
+abbrev pub obeyed : Board → Verb → ℕ → ℕ → List ℕ → Played
+obeyed b verb.Image n m xs = takes b xs
+obeyed b verb.Buffer n m xs = lends b n
+obeyed b verb.Field n m xs = loses b
+obeyed b verb.Frame n m xs = hears b n xs true
+obeyed b verb.Parity n m xs = hears b n xs false
+obeyed b verb.Start n m xs = sees b 0 0
+obeyed b verb.Stop n m xs = sees b 1 0
+obeyed b verb.Send n m xs = sees b 2 n
+-- "3 read with ACK, 4 read without": `ack` is 0 and `nak` 1
+obeyed b verb.Read n m xs = sees b (3 + n) 0
+obeyed b verb.Event n m xs = sees b n m
+obeyed b verb.Show n m xs = answers b (told.shown (b .image))
+obeyed b verb.Help n m xs = answers b told.help
+
+-- "Any other line is answered by `error` and changes nothing"
+abbrev pub played : Board → Verb → Said → Played
+played b v (given ns xs) = obeyed b v (getD ns 0 0) (getD ns 1 0) xs
+played b v unknown = answers b told.error
+played b v wrong = answers b told.error
+played b v long = answers b told.error
 
 -- The whole of a line: what it is answered by, and the board that it leaves.
--- "Empty lines and lines that begin with `#` are skipped and answered by nothing."
+-- "Empty lines, and lines that begin with `#`, are skipped and answered by nothing"
 unfoldable pub answerTo : Board → List ℕ → List ℕ
-answerTo b line = cond (isSkipped line) [] (textOf (played b (saidOf line) .told) ++ newline)
+answerTo b line = cond (isSkipped line) [] (lineText (partsOf (played b (verbOf line) (saidOf line) .told)))
 
 unfoldable pub boardAfter : Board → List ℕ → Board
-boardAfter b line = cond (isSkipped line) b (played b (saidOf line) .board)
+boardAfter b line = cond (isSkipped line) b (played b (verbOf line) (saidOf line) .board)

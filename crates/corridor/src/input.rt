@@ -1,7 +1,7 @@
 // Standard input, line by line. What was read last stands in a chunk, and the line that is being gathered in a line
 // buffer of 16,398 bytes, one more than the longest command has: a line that fills it is too long, and what is
 // behind that is dropped.
-ghost use Rattle.corridor.specs.Held.{Reads};
+ghost use Rattle.corridor.specs.Session.{Reads};
 
 pub type Line = [u8; 16398];
 

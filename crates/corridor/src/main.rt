@@ -1,4 +1,5 @@
 // Plays the tag on standard input and output: commands in, one a line, and one line out for each.
+mod calls;
 mod input;
 mod session;
 
@@ -13,7 +14,7 @@ use session::new_session;
 use session::respond;
 ghost use Prim.Native.Nat.{_≤_};
 ghost use lib.ListN.{length};
-ghost use Rattle.corridor.specs.Held.{Within, Reads};
+ghost use Rattle.corridor.specs.Session.{Within, Reads};
 
 const STDOUT: i32 = 1;
 

@@ -1,32 +1,33 @@
 // The board that is played, and what each line does to it. Nothing here knows the tag's rules: every answer comes from the frame call, the
 // field loss and the bus event.
+use crate::calls::call_frame;
+use crate::calls::call_step;
+use crate::calls::event_number;
+use crate::calls::event_told;
+use crate::calls::frame_told;
 use crate::input::Line;
-use lines::read::Command;
+use laying::put_front;
+use lines::read::Asked;
 use lines::read::Sent;
-use lines::read::command_of;
+use lines::read::Verb;
+use lines::read::asked_of;
 use lines::read::is_skipped;
 use lines::write::Answer;
 use lines::write::Kilobyte;
 use lines::write::Out;
 use lines::write::line_of;
-use lines::write::put_front;
-use radio::TagRecord;
-use two_wire::BusAnswer;
+use tag::record::TagRecord;
 use two_wire::BusRecord;
-use two_wire::BusStep;
+use words::args::Verdict;
 ghost use mathlib.Core.Path.{_≡_};
 ghost use mathlib.Core.List.{List};
 ghost use Prim.Native.Nat.{ℕ, _≤_};
-ghost use lib.ListN.{length, take};
-ghost use Rattle.tag.specs.Outcome.{bitsOf, answerOf};
-ghost use Rattle.radio.specs.Call.{Called, called, Met};
-ghost use Rattle.two_wire.specs.declared.BusRecord.{BusRecord as Bus};
-ghost use Rattle.two_wire.specs.Step.{does, Did};
-ghost use Rattle.lines.specs.Bounds.{CommandFits, AnswerFits};
-ghost use Rattle.lines.specs.Said.{says};
-ghost use Rattle.lines.specs.Told.{tells, bytesIn};
-ghost use Rattle.corridor.specs.Played.{opening, played, takes, lends, loses, hears, callTold, sees, eventTold, answers};
-ghost use Rattle.corridor.specs.Held.{boardOf, Within, Acts, Answers};
+ghost use lib.ListN.{take, getD};
+ghost use Rattle.words.specs.Args.{saidBy};
+ghost use Rattle.lines.specs.Said.{AskedFits};
+ghost use Rattle.lines.specs.Told.{tells, AnswerFits};
+ghost use Rattle.corridor.specs.Played.{opening, obeyed, played, takes, lends, loses, hears, sees, answers};
+ghost use Rattle.corridor.specs.Session.{boardOf, Within, Acts, Answers};
 
 // All that is kept from line to line beside the image itself: how many bytes the image has, how many are lent for an answer, and the two
 // records.
@@ -110,46 +111,6 @@ fn lose_field(session: Session) -> Acted
     }
 }
 
-// The frame call on the first `size` bytes of `image`, the first `lent` of `answer` and the first `count` of `bytes`.
-fn call_frame(
-    image: &mut [u8],
-    size: usize,
-    answer: &mut [u8],
-    lent: usize,
-    tag: TagRecord,
-    bytes: &[u8],
-    count: usize,
-    bits: usize,
-    good: bool,
-) -> radio::Answer
-    requires { ⌜ (size ≤ length (now image)) × (lent ≤ length (now answer)) × (count ≤ length (now bytes)) ⌝ }
-    ensures { λ r. ⌜ Met (called (take size (now (image .entry))) lent tag (take count (now (bytes .entry))) bits good) r (take size (now (image .entry))) (take size (now (image .exit))) (take lent (now (answer .entry))) (take lent (now (answer .exit))) ⌝ }
-{
-    radio::frame(
-        &mut image[0..size],
-        &mut answer[0..lent],
-        tag,
-        &bytes[0..count],
-        bits,
-        good,
-    )
-}
-
-// What a frame is answered by: a refusal, silence, or bits.
-fn frame_told(refused: u8, bits: usize) -> Answer
-    requires { ⌜ bits ≤ 8192 ⌝ }
-    ensures { λ r. ⌜ AnswerFits r ⌝ }
-    ensures { λ r. ⌜ ((c : Called) (buf img : List ℕ) → refused ≡ c .refused → bits ≡ bitsOf (c .reply) → take (bytesIn bits) buf ≡ answerOf (c .reply) → tells r buf img ≡ callTold c) ⌝ }
-{
-    if refused != 0 {
-        return Answer::Refused(refused);
-    }
-    if bits == 0 {
-        return Answer::Silence;
-    }
-    Answer::Bits(bits)
-}
-
 fn hear(
     image: &mut Kilobyte,
     answer: &mut Kilobyte,
@@ -175,42 +136,6 @@ fn hear(
         session: next,
         told,
     }
-}
-
-// The bus event on the first `size` bytes of `image`.
-fn call_step(image: &mut [u8], size: usize, bus: BusRecord, number: u8, byte: u8) -> BusStep
-    requires { ⌜ size ≤ length (now image) ⌝ }
-    ensures { λ r. ⌜ Did (does (take size (now (image .entry))) bus number byte) r (take size (now (image .entry))) (take size (now (image .exit))) ⌝ }
-{
-    two_wire::step(&mut image[0..size], bus, number, byte)
-}
-
-// A number that is no u8 is no event either, and 255 stands for it.
-fn event_number(number: usize) -> u8
-    ensures { λ r. ⌜ ((img : List ℕ) (bus : Bus) (byte : ℕ) → does img bus r byte ≡ does img bus number byte) ⌝ }
-{
-    if number < 255 { number as u8 } else { 255 }
-}
-
-// What an event is answered by.
-fn event_told(answer: BusAnswer) -> Answer
-    ensures { λ r. ⌜ AnswerFits r ⌝ }
-    ensures { λ r. ⌜ ((buf img : List ℕ) → tells r buf img ≡ eventTold answer) ⌝ }
-{
-    let value = answer.value;
-    if answer.refused != 0 {
-        return Answer::Refused(answer.refused);
-    }
-    if answer.kind == 0 {
-        return Answer::Done;
-    }
-    if answer.kind != 1 {
-        return Answer::Byte(value);
-    }
-    if value == 0 {
-        return Answer::Declined;
-    }
-    Answer::Acknowledged
 }
 
 fn see(image: &mut Kilobyte, session: Session, number: usize, byte: u8) -> Acted
@@ -240,35 +165,58 @@ fn answered(session: Session, told: Answer) -> Acted
     Acted { session, told }
 }
 
-// Carries a command out. The bytes of a frame's answer are then at the start of `answer`.
+// Carries out a command that is written as it is to be. The bytes of a frame's answer are then at the start of `answer`.
+fn obey(
+    image: &mut Kilobyte,
+    answer: &mut Kilobyte,
+    bytes: &Sent,
+    session: Session,
+    asked: Asked,
+) -> Acted
+    requires { ⌜ Within session ⌝ }
+    requires { ⌜ AskedFits asked ⌝ }
+    ensures { λ r. ⌜ Acts (obeyed (boardOf session (now (image .entry))) (asked .verb) (getD (asked .given .numbers) 0 0) (getD (asked .given .numbers) 1 0) (take (asked .given .end) (now (bytes .entry)))) r (now (image .exit)) (now (answer .exit)) ⌝ }
+{
+    let verb = asked.verb;
+    let given = asked.given;
+    let end = given.end;
+    let numbers = given.numbers;
+    let n = numbers[0] as usize;
+    match verb {
+        Verb::Image => take_image(image, bytes, session, end),
+        Verb::Buffer => lend(session, n),
+        Verb::Field => lose_field(session),
+        Verb::Frame => hear(image, answer, bytes, session, n, end, true),
+        Verb::Parity => hear(image, answer, bytes, session, n, end, false),
+        Verb::Start => see(image, session, 0, 0),
+        Verb::Stop => see(image, session, 1, 0),
+        Verb::Send => see(image, session, 2, n as u8),
+        Verb::Read => see(image, session, 3 + n, 0),
+        Verb::Event => see(image, session, n, numbers[1] as u8),
+        Verb::Show => answered(session, Answer::Shown(session.size)),
+        Verb::Help => answered(session, Answer::Help),
+    }
+}
+
+// Carries out what a line asks for.
 fn act(
     image: &mut Kilobyte,
     answer: &mut Kilobyte,
     bytes: &Sent,
     session: Session,
-    command: Command,
+    asked: Asked,
 ) -> Acted
     requires { ⌜ Within session ⌝ }
-    requires { ⌜ CommandFits command ⌝ }
-    ensures { λ r. ⌜ Acts (played (boardOf session (now (image .entry))) (says command (now (bytes .entry)))) r (now (image .exit)) (now (answer .exit)) ⌝ }
+    requires { ⌜ AskedFits asked ⌝ }
+    ensures { λ r. ⌜ Acts (played (boardOf session (now (image .entry))) (asked .verb) (saidBy (asked .given) (now (bytes .entry)))) r (now (image .exit)) (now (answer .exit)) ⌝ }
 {
-    match command {
-        Command::Image(n) => take_image(image, bytes, session, n),
-        Command::Buffer(n) => lend(session, n),
-        Command::Field => lose_field(session),
-        Command::Frame { bits, count, good } => hear(
-            image,
-            answer,
-            bytes,
-            session,
-            bits,
-            count,
-            good,
-        ),
-        Command::Event { number, byte } => see(image, session, number, byte),
-        Command::Show => answered(session, Answer::Shown(session.size)),
-        Command::Help => answered(session, Answer::Help),
-        Command::Wrong => answered(session, Answer::Error),
+    let given = asked.given;
+    let verdict = given.verdict;
+    match verdict {
+        Verdict::Good => obey(image, answer, bytes, session, asked),
+        Verdict::Unknown => answered(session, Answer::Error),
+        Verdict::Wrong => answered(session, Answer::Error),
+        Verdict::Long => answered(session, Answer::Error),
     }
 }
 
@@ -289,8 +237,8 @@ pub fn respond(
     if is_skipped(line, len) {
         return Responded { session, length: 0 };
     }
-    let command = command_of(line, len, bytes);
-    let acted = act(image, answer, bytes, session, command);
+    let asked = asked_of(line, len, bytes);
+    let acted = act(image, answer, bytes, session, asked);
     let next = acted.session;
     let told = acted.told;
     let length = line_of(out, told, answer, image);

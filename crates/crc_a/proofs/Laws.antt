@@ -11,6 +11,7 @@ use lib.ListN.{length, take, drop, getD, set, length-append, drop-of-length-le}
 use lib.Seq.{sets, take-at, drop-cons, getD-append-add}
 use borrow.Author.Tests.{le-leb, lt-leb, eq-eqb}
 use lib.Dec.{eqb}
+use Rattle.basics.specs.Bytes.{lowFirst}
 use Rattle.crc_a.specs.CrcA.{polynomial, start, shifted, shiftedBy, byteIn, bytesIn, crcA, sent, withCrc, crcRight, StandardExamples}
 
 pub standard-examples : StandardExamples
@@ -40,10 +41,10 @@ pub too-short : (frame : List ℕ) → length frame < 2 → false ≡ crcRight f
 unfolding crcRight
 too-short frame l = simp (lt-leb _ _ l)
 
-pub ends-with : (frame : List ℕ) (end′ lo hi c : ℕ) → 2 ≤ length frame → end′ ≡ length frame - 2
-    → (lo ≡ getD frame end′ 0) × (lo < 256) → (hi ≡ getD frame (end′ + 1) 0) × (hi < 256) → c ≡ crcA (take end′ frame) → eqb (lo + 256 * hi) c ≡ crcRight frame
+pub ends-with : (frame : List ℕ) (end′ w c : ℕ) → 2 ≤ length frame → end′ ≡ length frame - 2
+    → w ≡ lowFirst (getD frame end′ 0) (getD frame (end′ + 1) 0) → c ≡ crcA (take end′ frame) → eqb c w ≡ crcRight frame
 unfolding crcRight
-ends-with frame end′ lo hi c l e p q h = rw (p .0, q .0, h, e) (simp (le-leb _ _ l))
+ends-with frame end′ w c l e p h = rw (p, h, e) (simp (le-leb _ _ l))
 
 -- bytes with their CRC_A behind them
 pub with-crc-right : (bs : List ℕ) → crcRight (withCrc bs) ≡ true
@@ -55,4 +56,4 @@ with-crc-right bs =
     let k : length whole - 2 ≡ length bs = omega arith in
     let lo : getD whole (length bs) 0 ≡ c % 256 = ap (λ (i : ℕ). getD whole i 0) (sym (add-zero (length bs))) ∙ getD-append-add bs (c % 256 ∷ c / 256 ∷ []) 0 0 in
     let hi : getD whole (length bs + 1) 0 ≡ c / 256 = getD-append-add bs (c % 256 ∷ c / 256 ∷ []) 1 0 in
-    rw (le-leb 2 (length whole) (omega arith), k, lo, hi, take-at bs (c % 256 ∷ c / 256 ∷ []) (length bs) refl) (eq-eqb (c % 256 + 256 * (c / 256)) c (omega arith))
+    rw (le-leb 2 (length whole) (omega arith), k, lo, hi, take-at bs (c % 256 ∷ c / 256 ∷ []) (length bs) refl) (eq-eqb c (c % 256 + 256 * (c / 256)) (omega arith))

@@ -1,5 +1,5 @@
--- Eight shifts of the register at once, which the code makes: `eight-shifts` in proofs/Byte.antt shows that they are the eight shifts of CrcA.
--- Assumes nothing.
+-- Needed by the code alone: eight shifts of the register at once. That they are the eight shifts of CrcA is `eight-shifts` in
+-- proofs/Byte.antt. Assumes nothing.
 use Prim.Native.Nat.{ℕ, _*_, _/_, _%_}
 use lib.Bits.{bitXor}
 

@@ -7,6 +7,7 @@ use Prim.Native.Nat.{ℕ, zero, suc, _+_, _-_, _*_, _/_, _%_, _^_}
 use lib.Bits.{bitXor}
 use lib.Dec.{eqb, leb}
 use lib.ListN.{length, take, getD}
+use Rattle.basics.specs.Bytes.{lowFirst, lowByte, highByte}
 
 -- "polynomial x^16+x^12+x^5+1, reflected": the coefficient of x^k is bit 15-k; that of x^16 is the bit that leaves the register
 unfoldable pub polynomial : ℕ
@@ -37,7 +38,7 @@ crcA bs = bytesIn start bs
 
 -- "low byte first": the two bytes as they are sent
 unfoldable pub sent : ℕ → List ℕ
-sent c = c % 256 ∷ c / 256 ∷ []
+sent c = lowByte c ∷ highByte c ∷ []
 
 -- bytes and their CRC_A behind them
 unfoldable pub withCrc : List ℕ → List ℕ
@@ -47,7 +48,7 @@ withCrc bs = bs ++ sent (crcA bs)
 unfoldable pub crcRight : List ℕ → Bool
 crcRight bs =
     let k = length bs - 2 in
-    leb 2 (length bs) && eqb (getD bs k 0 + 256 * getD bs (k + 1) 0) (crcA (take k bs))
+    leb 2 (length bs) && eqb (crcA (take k bs)) (lowFirst (getD bs k 0) (getD bs (k + 1) 0))
 
 -- The standard's examples: 00 00 gives A0 1E, and 12 34 gives 26 CF.
 pub record StandardExamples : Type 0 where

@@ -1,4 +1,5 @@
 // CRC_A, the check sum of ISO/IEC 14443-3: of a slice, behind the bytes of a buffer, and at a frame's end.
+use basics::low_first;
 ghost use mathlib.Core.Path.{_≡_};
 ghost use Prim.Native.Nat.{_+_, _≤_, _<_};
 ghost use lib.ListN.{length, take};
@@ -46,12 +47,6 @@ pub fn append(buffer: &mut [u8], n: usize)
     buffer[n + 1] = (c / 256) as u8;
 }
 
-fn wide(b: u8) -> u16
-    ensures { λ r. ⌜ (r ≡ b) × (r < 256) ⌝ }
-{
-    b as u16
-}
-
 // Whether the frame's last two bytes are the CRC_A of those before them.
 pub fn is_right(frame: &[u8]) -> bool
     ensures { λ r. ⌜ r ≡ crcRight (now (frame .entry)) ⌝ }
@@ -61,5 +56,5 @@ pub fn is_right(frame: &[u8]) -> bool
         return false;
     }
     let end = n - 2;
-    wide(frame[end]) + 256 * wide(frame[end + 1]) == crc_a(&frame[..end])
+    crc_a(&frame[..end]) == low_first(frame[end], frame[end + 1])
 }

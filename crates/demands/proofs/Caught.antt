@@ -2,7 +2,7 @@
 use mathlib.Core.Path.{_≡_, refl, ap}
 use Prim.Native.Nat.{ℕ}
 use native.Mathlib.Omega.{arith}
-use Rattle.image.specs.declared.Four.{Four}
+use Rattle.image.specs.declared.layout.Four.{Four}
 use Rattle.demands.specs.Demand.{Keeps3}
 use Rattle.demands.specs.Table.{plain}
 use Rattle.demands.specs.Wrong.{lazy, once, twoWrites}

@@ -1,6 +1,3 @@
-pub mod Tests
-pub mod Change
-pub mod Kept
 pub mod Demand
 pub mod Computes
 pub mod Examples

@@ -1,27 +1,23 @@
--- Demand 3, sentence by sentence: "From field off, any image, any run of frames and field losses (refused ones too, no bus event)".
--- Assumes nothing.
+-- Demand 3, sentence by sentence: "Start with the field off, any image, and any run of frames and field losses, refused ones too, each on the
+-- image and tag record that the one before left, with no bus event in it." Assumes nothing.
 use mathlib.Core.Path.{_≡_}
 use mathlib.Core.List.{List, _++_}
 use mathlib.Core.Bool.{true}
 use Prim.Native.Nat.{ℕ, _≤_, _<_}
 use lib.ListN.{length}
-use Rattle.image.specs.declared.Region.the-variants.{User}
-use Rattle.image.specs.declared.Size.{Size}
-use Rattle.image.specs.declared.Size.the-variants.{Pages, Unknown}
+use Rattle.image.specs.declared.layout.Region.the-variants.{User}
+use Rattle.image.specs.declared.layout.Size.{Size}
+use Rattle.image.specs.declared.layout.Size.the-variants.{Pages, Unknown}
 use Rattle.image.specs.Layout.{sizeOf, pageAt, firstSettings, pwdPage, regionOf}
 use Rattle.image.specs.Settings.{auth0, settingsLocked}
 use Rattle.image.specs.Write.{locked, NoneCleared}
 use Rattle.image.specs.Tail.{counter}
-use Rattle.radio.specs.declared.TagRecord.{TagRecord}
-use Rattle.demands.specs.Run.{Input, Frame, Call, ours, fromOff, imageAfter, lastWritten, noneOffers}
-
--- a tag that meets demand 2: every call comes out as document 01 says
-abbrev pub Meets2 : Call → Type 0
-Meets2 call = (img : List ℕ) (r : TagRecord) (f : Frame) → call img r f ≡ ours img r f
+use Rattle.runs.specs.Run.{Input, Call, fromOff, imageAfter}
+use Rattle.runs.specs.Seen.{lastWritten, noneOffers}
 
 -- of an image of n pages
 pub record Demand3 (call : Call) (n : ℕ) (img : List ℕ) (run : List Input) : Type 0 where
-  -- "each user page holds the four bytes of the last acknowledged WRITE to it, else its first bytes"
+  -- "At the end each user page holds the four bytes of the last WRITE to it that was acknowledged, else its first bytes."
   pub userPages : (p : ℕ) → regionOf n p ≡ User → pageAt (imageAfter call img run) p ≡ lastWritten call p (fromOff img) run (pageAt img p)
   -- "No lock, block-lock, .. or capability bit has cleared"
   pub noneCleared : NoneCleared n img (imageAfter call img run)
@@ -32,7 +28,7 @@ pub record Demand3 (call : Call) (n : ℕ) (img : List ℕ) (run : List Input) :
   -- "A user page once locked does not change again.": from each moment of the run on
   pub lockedStays : (before later : List Input) → before ++ later ≡ run → (p : ℕ) → regionOf n p ≡ User → locked n (imageAfter call img before) p ≡ true
       → pageAt (imageAfter call img run) p ≡ pageAt (imageAfter call img before) p
-  -- "If at the start password protection began at or before the first settings page, and no frame offered the password, no page from its
+  -- "If, at the start, password protection began at or before the first settings page, and no frame offered the password, no page from its
   -- first page on has changed."
   pub protectedStays : auth0 n img ≤ firstSettings n → noneOffers (pageAt img (pwdPage n)) run ≡ true → (p : ℕ) → auth0 n img ≤ p → p < n
       → pageAt (imageAfter call img run) p ≡ pageAt img p

@@ -1,4 +1,3 @@
-pub mod Run
 pub mod Demand
 pub mod Table
 pub mod Wrong

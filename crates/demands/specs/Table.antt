@@ -11,11 +11,11 @@ use Rattle.image.specs.Layout.{pageAt}
 use Rattle.image.specs.Uid.{bcc0, bcc1}
 use Rattle.image.specs.Write.{locked}
 use Rattle.image.specs.Tail.{counter}
-use Rattle.tag.specs.declared.Wait.the-variants.{ToIdle}
-use Rattle.tag.specs.declared.State.the-variants.{Ready1, Active}
-use Rattle.tag.specs.declared.Tag.{Tag}
+use Rattle.tag.specs.declared.state.Wait.the-variants.{ToIdle}
+use Rattle.tag.specs.declared.state.State.the-variants.{Ready1, Active}
+use Rattle.tag.specs.declared.state.Tag.{Tag}
 use Rattle.tag.specs.Outcome.{build, Reply, silence, nibble, bytes, bitsOf, answerOf, keep, apply}
-use Rattle.radio.specs.Record.{recordOf}
+use Rattle.tag.specs.Record.{recordOf}
 use Rattle.radio.specs.Call.{Called, called}
 use Rattle.two_wire.specs.Examples.{RollsOver}
 

@@ -8,14 +8,15 @@ use Rattle.image.specs.Layout.{pageAt}
 use Rattle.tag.specs.Outcome.{Effect, keep, put}
 use Rattle.commands.specs.Commands.{same}
 use Rattle.radio.specs.Reach.{wupa, select1, select2}
-use Rattle.demands.specs.Run.{Input, sent, Call, ours, acks}
+use Rattle.runs.specs.Run.{Input, sent, Call, ours}
+use Rattle.runs.specs.Seen.{acks}
 use Rattle.demands.specs.Table.{plain, writeFour}
 
 -- it acknowledges a WRITE, and stores nothing
 unfoldable pub lazy : Call
 lazy img r f =
     let o = ours img r f in
-    record { refused = o .refused; reply = o .reply; effect = cond (acks o) keep (o .effect); left = o .left }
+    record { refused = o .refused; reply = o .reply; effect = cond (acks (o .reply)) keep (o .effect); left = o .left }
 
 -- it stores the first WRITE only: a page that holds what it was delivered with
 unfoldable pub unless : List ℕ → Effect → Effect
@@ -25,7 +26,7 @@ unless img (put p v) = cond (same (pageAt img p) (pageAt (plain 45) p)) (put p v
 unfoldable pub once : Call
 once img r f =
     let o = ours img r f in
-    record { refused = o .refused; reply = o .reply; effect = cond (acks o) (unless img (o .effect)) (o .effect); left = o .left }
+    record { refused = o .refused; reply = o .reply; effect = cond (acks (o .reply)) (unless img (o .effect)) (o .effect); left = o .left }
 
 -- woken, selected twice, and two WRITEs to page 4
 abbrev pub whole : List ℕ → Input

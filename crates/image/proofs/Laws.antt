@@ -13,19 +13,24 @@ use types.Run.{OneOf}
 use denote.Enum.Declared.{declared, tagOf}
 use borrow.Enum.Known.{lives-at}
 use borrow.Author.Tests.{eqb-true, ne-eqb, lt-ltb, le-ltb, lt-leb, le-leb}
-use Rattle.locks.specs.Bits.{row}
-use Rattle.locks.specs.Locks.{Sized, lockPage, lockedBy}
+use Rattle.basics.specs.Bytes.{lowFirst}
+use Rattle.basics.proofs.Choice.{by, not-not}
+use Rattle.locks.specs.Locks as locks
+use Rattle.locks.specs.Locks.{Sized, lockPage}
+use Rattle.locks.specs.declared.LockBit.{LockBit}
 use Rattle.locks.proofs.Lock.{sized-least, sized-most}
-use Rattle.image.specs.Layout.{sizeOf, Fits, byte, pageAt, store, firstSettings, pwdPage, regionOf, TheTable}
+use Rattle.image.specs.Layout.{sizeOf, Fits, byte, fourAt, pageAt, store, firstSettings, pwdPage, regionOf, TheTable}
+use Rattle.image.specs.Settings.{counterOn, counterGuarded, countReadable}
 use Rattle.image.specs.Uid.{uid, cascadeTag, bcc0, bcc1, UidExample}
 use Rattle.image.specs.Shown.{shown, shownPage}
-use Rattle.image.specs.Write.{statics, dynamics, locked, writtenIn, written, write}
+use Rattle.image.specs.Write.{statics, dynamics, lockedBy, writtenIn, written, write}
 use Rattle.image.specs.Tail.{counterIn, nextCount, counted}
-use Rattle.image.proofs.Region.{enum}
-use Rattle.image.specs.declared.Four.{Four}
-use Rattle.image.specs.declared.Size.the-variants.{Pages, Unknown}
-use Rattle.image.specs.declared.Region.{Region}
-use Rattle.image.specs.declared.Region.the-variants.{Uid, StaticLocks, Capability, User, DynamicLocks, Settings, Password, Outside}
+use Rattle.image.proofs.layout.Region.{enum}
+use Rattle.image.specs.declared.layout.Four.{Four}
+use Rattle.image.specs.declared.layout.Size.{Size}
+use Rattle.image.specs.declared.layout.Size.the-variants.{Pages, Unknown}
+use Rattle.image.specs.declared.layout.Region.{Region}
+use Rattle.image.specs.declared.layout.Region.the-variants.{Uid, StaticLocks, Capability, User, DynamicLocks, Settings, Password, Outside}
 
 -- ---- sizes
 
@@ -39,17 +44,15 @@ sized-fits n img s e = record { size = s; least = sized-least s; most = sized-mo
 -- an image whose length has a size has as many pages
 pub fits : (n : ℕ) (img : List ℕ) → sizeOf (length img) ≡ Pages n → Fits n img
 unfolding sizeOf
-fits n img h = pick (eqb (length img) 184) (eqb (length img) 544) (eqb (length img) 928) refl refl refl h
+fits n img =
+    let P : Size → Type 0 = λ s. s ≡ Pages n → Fits n img in
+    let l = length img in
+    by P (eqb l 184) (λ p. same 45 184 (inl refl) (eqb-true l 184 p) refl)
+    (λ _. by P (eqb l 544) (λ p. same 135 544 (inr (inl refl)) (eqb-true l 544 p) refl)
+    (λ _. by P (eqb l 928) (λ p. same 231 928 (inr (inr refl)) (eqb-true l 928 p) refl) (λ _ h. let z : _≡_ {A = ℕ} 0 1 = cc in absurd (omega arith))))
   where
     same : (m k : ℕ) → Sized m → length img ≡ k → k ≡ 4 * m + 4 → Pages m ≡ Pages n → Fits n img
     same m k s e f p = let q : m ≡ n = cc in rw (← q) (sized-fits m img s (e ∙ f))
-
-    pick : (a b c : Bool) → eqb (length img) 184 ≡ a → eqb (length img) 544 ≡ b → eqb (length img) 928 ≡ c
-        → cond a (Pages 45) (cond b (Pages 135) (cond c (Pages 231) Unknown)) ≡ Pages n → Fits n img
-    pick true b c p q r h = same 45 184 (inl refl) (eqb-true (length img) 184 p) refl h
-    pick false true c p q r h = same 135 544 (inr (inl refl)) (eqb-true (length img) 544 q) refl h
-    pick false false true p q r h = same 231 928 (inr (inr refl)) (eqb-true (length img) 928 r) refl h
-    pick false false false p q r h = let z : _≡_ {A = ℕ} 0 1 = cc in absurd (omega arith)
 
 -- ---- regions
 
@@ -90,10 +93,9 @@ module _ (n p : ℕ) where
 
 -- ---- bytes
 
-pub page-read : (img : List ℕ) (p : ℕ)
-    → _≡_ {A = Four} (record { b0 = getD img (4 * p) 0; b1 = getD img (4 * p + 1) 0; b2 = getD img (4 * p + 2) 0; b3 = getD img (4 * p + 3) 0 }) (pageAt img p)
-unfolding pageAt byte
-page-read img p = simp add-zero
+pub page-read : (img : List ℕ) (p : ℕ) (v : Four) → v ≡ fourAt img (4 * p) → v ≡ pageAt img p
+unfolding fourAt pageAt byte
+page-read img p v e = simp add-zero e
 
 pub uid-low : (img : List ℕ) (i : ℕ) → i < 3 → getD img i 0 ≡ uid img i
 unfolding uid byte
@@ -129,10 +131,26 @@ pub page-hidden : (n p : ℕ) (img : List ℕ) → n - 2 ≤ p → _≡_ {A = Fo
 unfolding shownPage shown
 page-hidden n p img l = rw (le-ltb p (n - 2) l)
 
-pub locked-read : (n p lo hi : ℕ) (img : List ℕ) (s d : Four) (b : Bool) → s ≡ pageAt img 2 → d ≡ pageAt img (n - 5)
-    → lo ≡ s .b2 + 256 * s .b3 → hi ≡ d .b0 + 256 * d .b1 → b ≡ lockedBy n lo hi p → b ≡ locked n img p
-unfolding locked statics dynamics pageAt
-locked-read n p lo hi img s d b e f g h k = rw (← ap (λ (q : Four). row (q .b2) (q .b3)) e, ← ap (λ (q : Four). row (q .b0) (q .b1)) f, ← g, ← h) k
+pub locked-read : (n p lo hi : ℕ) (img : List ℕ) (s d : Four) (l : LockBit) → s ≡ pageAt img 2 → d ≡ pageAt img (n - 5)
+    → lo ≡ lowFirst (s .b2) (s .b3) → hi ≡ lowFirst (d .b0) (d .b1) → l ≡ locks.lockedBy n lo hi p → l ≡ lockedBy n img p
+unfolding lockedBy statics dynamics pageAt
+locked-read n p lo hi img s d l e f g h k = rw (← ap (λ (q : Four). lowFirst (q .b2) (q .b3)) e, ← ap (λ (q : Four). lowFirst (q .b0) (q .b1)) f, ← g, ← h) k
+
+-- ---- the counter's question
+
+module _ (n : ℕ) (img : List ℕ) (authenticated b : Bool) (e : b ≡ counterOn n img) where
+  pub count-off : b ≡ false → false ≡ countReadable n img authenticated
+  unfolding countReadable
+  count-off h = simp (← e, h)
+
+  module _ (g : Bool) (f : g ≡ counterGuarded n img) (h : b ≡ true) where
+    pub count-open : g ≡ false → true ≡ countReadable n img authenticated
+    unfolding countReadable
+    count-open k = simp (← e, h, ← f, k)
+
+    pub count-guarded : g ≡ true → authenticated ≡ countReadable n img authenticated
+    unfolding countReadable
+    count-guarded k = simp (← e, h, ← f, k) (not-not authenticated)
 
 -- ---- what a WRITE leaves at its page
 
@@ -176,11 +194,7 @@ count-stays c l = simp (le-ltb c 0xFFFFFF l)
 
 pub next-not-less : (c : ℕ) → c ≤ nextCount c
 unfolding nextCount
-next-not-less c = pick (ltb c 0xFFFFFF)
-  where
-    pick : (t : Bool) → c ≤ cond t (c + 1) c
-    pick true = omega arith
-    pick false = omega arith
+next-not-less c = by (λ (k : ℕ). c ≤ k) (ltb c 0xFFFFFF) (λ _. omega arith) (λ _. omega arith)
 
 -- the three bytes hold the next count, and the failed-password count is kept
 pub counter-counted : (tail : Four) → counterIn (counted tail) ≡ nextCount (counterIn tail)

@@ -9,7 +9,7 @@ use lib.ListN.{length, getD, take, drop, set, length-set, drop-of-length-le}
 use lib.Seq.{sets, sets-eq, length-sets, getD-set-same, getD-set-other, drop-drop}
 use borrow.Rule.Slice.PartMut.{putMid}
 use Rattle.image.specs.Layout.{Fits, byte, pageAt, bytesOf, store}
-use Rattle.image.specs.declared.Four.{Four}
+use Rattle.image.specs.declared.layout.Four.{Four}
 
 -- ---- what the code leaves
 
@@ -20,13 +20,12 @@ page-put page v e =
     sets-eq (bytesOf v) page 0 (omega arith) ∙ ap (λ (t : List ℕ). bytesOf v ++ t) (drop-of-length-le page {i = 0 + 4} (omega arith)) ∙ append-nil (bytesOf v)
 
 -- the part that was lent is back in the image
-pub part-back : (img page : List ℕ) (p : ℕ) (v : Four) → 4 * p + 4 ≤ length img → page ≡ bytesOf v
-    → putMid (4 * p) (4 * p + 4 - 4 * p) img page ≡ store img p v
-unfolding store bytesOf
-part-back img page p v l e =
+pub part-back : (xs page : List ℕ) (at : ℕ) (v : Four) → at + 4 ≤ length xs → page ≡ bytesOf v → putMid at (at + 4 - at) xs page ≡ sets xs at (bytesOf v)
+unfolding bytesOf
+part-back xs page at v l e =
     let vs = bytesOf v in
     rw (e, add-sub-cancel-left)
-    (ap (λ (t : List ℕ). take (4 * p) img ++ (vs ++ t)) (drop-drop 4 (4 * p) img) ∙ sym (append-assoc (take (4 * p) img) vs (drop (4 * p + 4) img)) ∙ sym (sets-eq vs img (4 * p) l))
+    (ap (λ (t : List ℕ). take at xs ++ (vs ++ t)) (drop-drop 4 at xs) ∙ sym (append-assoc (take at xs) vs (drop (at + 4) xs)) ∙ sym (sets-eq vs xs at l))
 
 -- ---- the length stays
 

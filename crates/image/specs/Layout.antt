@@ -7,11 +7,11 @@ use lib.ListN.{length, getD}
 use lib.Seq.{sets}
 use lib.Dec.{eqb, leb, ltb}
 use Rattle.locks.specs.Locks.{Sized, lockPage}
-use Rattle.image.specs.declared.Four.{Four}
-use Rattle.image.specs.declared.Size.{Size}
-use Rattle.image.specs.declared.Size.the-variants.{Pages, Unknown}
-use Rattle.image.specs.declared.Region.{Region}
-use Rattle.image.specs.declared.Region.the-variants.{Uid, StaticLocks, Capability, User, DynamicLocks, Settings, Password, Outside}
+use Rattle.image.specs.declared.layout.Four.{Four}
+use Rattle.image.specs.declared.layout.Size.{Size}
+use Rattle.image.specs.declared.layout.Size.the-variants.{Pages, Unknown}
+use Rattle.image.specs.declared.layout.Region.{Region}
+use Rattle.image.specs.declared.layout.Region.the-variants.{Uid, StaticLocks, Capability, User, DynamicLocks, Settings, Password, Outside}
 
 -- "The length tells the size": the table's columns N and length
 unfoldable pub sizeOf : ℕ → Size
@@ -28,7 +28,10 @@ pub record Fits (n : ℕ) (img : List ℕ) : Type 0 where
 unfoldable pub byte : List ℕ → ℕ → ℕ → ℕ
 byte img p k = getD img (4 * p + k) 0
 
--- the four bytes of page p
+-- the four bytes from place i on, and those of page p
+unfoldable pub fourAt : List ℕ → ℕ → Four
+fourAt xs i = record { b0 = getD xs i 0; b1 = getD xs (i + 1) 0; b2 = getD xs (i + 2) 0; b3 = getD xs (i + 3) 0 }
+
 unfoldable pub pageAt : List ℕ → ℕ → Four
 pageAt img p = record { b0 = byte img p 0; b1 = byte img p 1; b2 = byte img p 2; b3 = byte img p 3 }
 

@@ -4,7 +4,7 @@ use mathlib.Core.Bool.{cond}
 use Prim.Native.Nat.{ℕ, _+_, _*_, _/_, _%_}
 use lib.Dec.{ltb}
 use Rattle.image.specs.Layout.{byte, pageAt, tailPage}
-use Rattle.image.specs.declared.Four.{Four}
+use Rattle.image.specs.declared.layout.Four.{Four}
 
 unfoldable pub counterIn : Four → ℕ
 counterIn tail = tail .b0 + 256 * tail .b1 + 65536 * tail .b2

@@ -1,151 +1,108 @@
 -- What a line says: the first column of the table of the lines. Assumes nothing.
-use Prim.Native.Nat.{ℕ}
-use mathlib.Core.Bool.{Bool, true, false, cond, _&&_}
+use Prim.Native.Nat.{ℕ, _≤_}
+use mathlib.Core.Path.{_≡_}
+use mathlib.Core.Bool.{Bool, true, cond}
 use mathlib.Core.List.{List, [], _∷_}
-use lib.Dec.{ltb, leb, eqb}
+use lib.Dec.{eqb}
 use lib.ListN.{length, take, getD}
-use Rattle.lines.specs.Words.{firstOf, restOf, goesOn, numberOf, Given, none, these, givenOf, byteOf}
-use Rattle.lines.specs.Names.{imageName, bufferName, fieldName, frameName, parityName, startName, stopName, sendName, readName, ackName, nakName, eventName, showName, helpName}
-use Rattle.lines.specs.declared.words.Byte.{Byte}
-use Rattle.lines.specs.declared.words.Byte.the-variants as byte
-use Rattle.lines.specs.declared.words.Number.{Number}
-use Rattle.lines.specs.declared.words.Number.the-variants as number
+use Rattle.words.specs.Text.{text}
+use Rattle.words.specs.Pack.{pack}
+use Rattle.words.specs.Word.{firstOf}
+use Rattle.words.specs.Args.{Said, saidIn}
+use Rattle.words.specs.Rows.{Named, asks, rowIn}
+use Rattle.words.specs.declared.args.Kind.{Kind}
+use Rattle.words.specs.declared.args.Kind.the-variants as kind
+use Rattle.words.specs.declared.args.Given.{Given}
 use Rattle.lines.specs.declared.read.Verb.{Verb}
 use Rattle.lines.specs.declared.read.Verb.the-variants as verb
-use Rattle.lines.specs.declared.read.Command.{Command}
-use Rattle.lines.specs.declared.read.Command.the-variants as command
+use Rattle.lines.specs.declared.read.Row.{Row}
+use Rattle.lines.specs.declared.read.Asked.{Asked}
 
--- a command with its bytes
-pub data Said : Type 0 where
-  image : List ℕ → Said
-  buffer : ℕ → Said
-  field : Said
-  frame : ℕ → List ℕ → Bool → Said
-  event : ℕ → ℕ → Said
-  show : Said
-  help : Said
-  wrong : Said
+-- ---- the arguments
 
--- what a command and the buffer of its bytes say together
-abbrev pub says : Command → List ℕ → Said
-says (command.Image n) xs = image (take n xs)
-says (command.Buffer n) xs = buffer n
-says command.Field xs = field
-says (command.Frame b n g) xs = frame b (take n xs) g
-says (command.Event n b) xs = event n b
-says command.Show xs = show
-says command.Help xs = help
-says command.Wrong xs = wrong
+abbrev pub nothing : Kind
+nothing = kind.Nothing
 
--- ---- the first word
+-- "Numbers are decimal, of one to five digits, at most 65535"
+abbrev pub numeral : Kind
+numeral = kind.Number 10 1 5 65535
 
-abbrev pub sameList : List ℕ → List ℕ → Bool
-sameList [] [] = true
-sameList [] (y ∷ ys) = false
-sameList (x ∷ xs) [] = false
-sameList (x ∷ xs) (y ∷ ys) = eqb x y && sameList xs ys
+-- "of N bytes, 0 to 1,024"
+abbrev pub kilo : Kind
+kilo = kind.Number 10 1 5 1024
 
--- which command a word names: one of the image, the buffer and frames, else one of the two wires, else one of the others
-unfoldable pub otherVerb : List ℕ → Verb
-otherVerb w =
-    cond (sameList w eventName) verb.Event
-    (cond (sameList w fieldName) verb.Field
-    (cond (sameList w showName) verb.Show
-    (cond (sameList w helpName) verb.Help verb.Unknown)))
+-- "HH is one byte"
+abbrev pub byte : Kind
+byte = kind.Number 16 2 2 255
 
-unfoldable pub busVerb : List ℕ → Verb
-busVerb w =
-    cond (sameList w startName) verb.Start
-    (cond (sameList w stopName) verb.Stop
-    (cond (sameList w sendName) verb.Send
-    (cond (sameList w readName) verb.Read (otherVerb w))))
+-- "`read ack`, `read nak`"
+abbrev pub ackNak : Kind
+ackNak = kind.Either (pack (text "ack")) (pack (text "nak"))
 
-unfoldable pub verbOf : List ℕ → Verb
-verbOf w =
-    cond (sameList w frameName) verb.Frame
-    (cond (sameList w parityName) verb.Parity
-    (cond (sameList w imageName) verb.Image
-    (cond (sameList w bufferName) verb.Buffer (busVerb w))))
+-- "this image, of 0 to 1,024 bytes"
+abbrev pub imageHex : Kind
+imageHex = kind.Hex 1024
 
--- ---- what is behind it
+-- "HEX has at most 8,192 bytes"
+abbrev pub frameHex : Kind
+frameHex = kind.Hex 8192
 
--- "`image HEX`": "of 0 to 1,024 bytes"
-abbrev pub imageOf : Given → Said
-imageOf none = wrong
-imageOf (these xs) = image xs
+-- ---- the commands: a word, its verb, how many of its arguments must be there, and the arguments
 
--- "`buffer N`": "of N bytes, 0 to 1,024"
-abbrev pub bufferOf : Number → Said
-bufferOf (number.Of n) = cond (leb n 1024) (buffer n) wrong
-bufferOf number.None = wrong
+unfoldable pub commands : List (Named Row)
+commands =
+    asks (text "image") (verb.Image, (0, imageHex, nothing, nothing))
+    ∷ asks (text "buffer") (verb.Buffer, (1, kilo, nothing, nothing))
+    ∷ asks (text "field") (verb.Field, (0, nothing, nothing, nothing))
+    ∷ asks (text "frame") (verb.Frame, (1, numeral, frameHex, nothing))
+    ∷ asks (text "parity") (verb.Parity, (1, numeral, frameHex, nothing))
+    ∷ asks (text "start") (verb.Start, (0, nothing, nothing, nothing))
+    ∷ asks (text "stop") (verb.Stop, (0, nothing, nothing, nothing))
+    ∷ asks (text "send") (verb.Send, (1, byte, nothing, nothing))
+    ∷ asks (text "read") (verb.Read, (1, ackNak, nothing, nothing))
+    ∷ asks (text "event") (verb.Event, (2, numeral, byte, nothing))
+    ∷ asks (text "show") (verb.Show, (0, nothing, nothing, nothing))
+    ∷ asks (text "help") (verb.Help, (0, nothing, nothing, nothing))
+    ∷ []
 
--- "`frame BITS HEX`", "`parity BITS HEX`": "HEX may hold up to 8,192 bytes for a frame"; "HEX of a frame may be missing"
-abbrev pub frameWith : Bool → Number → Given → Said
-frameWith g (number.Of b) (these xs) = frame b xs g
-frameWith g (number.Of b) none = wrong
-frameWith g number.None x = wrong
+-- no command: it asks for four arguments, and its verb means nothing
+abbrev pub noCommand : Row
+noCommand = (verb.Help, (4, nothing, nothing, nothing))
 
-unfoldable pub frameOf : Bool → List ℕ → Said
-frameOf g w = frameWith g (numberOf (firstOf w)) (cond (goesOn w) (givenOf 8192 (restOf w)) (these []))
-
--- "`read ack`", "`read nak`": "byte read with, without ACK", events 3 and 4, which have no byte
-unfoldable pub readOf : List ℕ → Said
-readOf w = cond (sameList w ackName) (event 3 0) (cond (sameList w nakName) (event 4 0) wrong)
-
--- "`send HH`": event 2
-abbrev pub eventWith : ℕ → Byte → Said
-eventWith n (byte.Of b) = event n b
-eventWith n byte.None = wrong
-
--- "`event N HH`": "HH is the byte sent and must be there always"
-abbrev pub eventAt : Number → Byte → Said
-eventAt (number.Of n) b = eventWith n b
-eventAt number.None b = wrong
-
-unfoldable pub eventOf : List ℕ → Said
-eventOf w = cond (goesOn w) (eventAt (numberOf (firstOf w)) (byteOf (restOf w))) wrong
+unfoldable pub rowOf : List ℕ → Row
+rowOf w = rowIn noCommand commands w
 
 -- ---- a whole line
 
--- a line of one word; "`image` alone: none"
-abbrev pub aloneOf : Verb → Said
-aloneOf verb.Image = image []
-aloneOf verb.Buffer = wrong
-aloneOf verb.Field = field
-aloneOf verb.Frame = wrong
-aloneOf verb.Parity = wrong
-aloneOf verb.Start = event 0 0
-aloneOf verb.Stop = event 1 0
-aloneOf verb.Send = wrong
-aloneOf verb.Read = wrong
-aloneOf verb.Event = wrong
-aloneOf verb.Show = show
-aloneOf verb.Help = help
-aloneOf verb.Unknown = wrong
+abbrev pub verbOf : List ℕ → Verb
+verbOf line = rowOf (firstOf line) .0
 
--- a line whose first word is followed by a space and w
-abbrev pub withOf : Verb → List ℕ → Said
-withOf verb.Image w = imageOf (givenOf 1024 w)
-withOf verb.Buffer w = bufferOf (numberOf w)
-withOf verb.Field w = wrong
-withOf verb.Frame w = frameOf true w
-withOf verb.Parity w = frameOf false w
-withOf verb.Start w = wrong
-withOf verb.Stop w = wrong
-withOf verb.Send w = eventWith 2 (byteOf w)
-withOf verb.Read w = readOf w
-withOf verb.Event w = eventOf w
-withOf verb.Show w = wrong
-withOf verb.Help w = wrong
-withOf verb.Unknown w = wrong
+-- "a line of more than 16,397 characters"
+abbrev pub saidOf : List ℕ → Said
+saidOf line = saidIn 16397 (rowOf (firstOf line) .1) line
 
--- "the longest line is `parity 65535` with them: 16,397 characters"; "Any other line .. is answered by `error`"
-abbrev pub longest : ℕ
-longest = 16397
-
-unfoldable pub saidOf : List ℕ → Said
-saidOf w = cond (ltb longest (length w)) wrong (cond (goesOn w) (withOf (verbOf (firstOf w)) (restOf w)) (aloneOf (verbOf (firstOf w))))
-
--- "Empty lines and lines that begin with `#` are skipped and answered by nothing." `#` is 35.
+-- "Empty lines, and lines that begin with `#`, are skipped and answered by nothing". `#` is 35.
 unfoldable pub isSkipped : List ℕ → Bool
-isSkipped w = cond (eqb (length w) 0) true (eqb (getD w 0 0) 35)
+isSkipped line = cond (eqb (length line) 0) true (eqb (getD line 0 0) 35)
+
+-- ---- how much a command may ask for, so that it fits the buffers and a byte
+
+abbrev pub Fits : Verb → Given → Type 0
+Fits verb.Image g = g .end ≤ 1024
+Fits verb.Buffer g = getD (g .numbers) 0 0 ≤ 1024
+Fits verb.Field g = Unit
+Fits verb.Frame g = Unit
+Fits verb.Parity g = Unit
+Fits verb.Start g = Unit
+Fits verb.Stop g = Unit
+Fits verb.Send g = getD (g .numbers) 0 0 ≤ 255
+Fits verb.Read g = getD (g .numbers) 0 0 ≤ 1
+Fits verb.Event g = getD (g .numbers) 1 0 ≤ 255
+Fits verb.Show g = Unit
+Fits verb.Help g = Unit
+
+-- the numbers that are there may be looked up among all three
+pub record AskedFits (r : Asked) : Type 0 where
+  pub end : r .given .end ≤ 8192
+  pub numbers : (j : ℕ) → getD (take (r .given .count) (r .given .numbers)) j 0 ≡ getD (r .given .numbers) j 0
+  pub verb : Fits (r .verb) (r .given)

@@ -1,41 +1,11 @@
 -- The line that answers a line: the last column of the table of the lines. Assumes nothing.
-use Prim.Native.Nat.{ℕ, _+_, _/_, _%_}
-use mathlib.Core.Path.{_≡_}
-use mathlib.Core.Bool.{cond}
-use mathlib.Core.List.{List, [], _∷_, _++_}
-use lib.Dec.{ltb}
+use Prim.Native.Nat.{ℕ, _+_, _/_, _≤_}
+use mathlib.Core.List.{List, [], _∷_}
 use lib.ListN.{take}
-use Rattle.io.specs.Digits.{digits}
-use Rattle.lines.specs.Names.{imageName, bufferName, fieldName, frameName, parityName, startName, stopName, sendName, readName, ackName, nakName, eventName, showName, helpName, answerName, silenceName, refusedName, doneName, byteName, errorName, commandsName}
+use Rattle.words.specs.Text.{text}
+use Rattle.laying.specs.Parts.{Part, word, number, hex, tail}
 use Rattle.lines.specs.declared.write.Answer.{Answer}
 use Rattle.lines.specs.declared.write.Answer.the-variants as answer
-
--- ---- what an answer is made of
-
--- "capitals out": the hex digit of a number below 16
-abbrev pub hexChar : ℕ → ℕ
-hexChar n = cond (ltb n 10) (n + 48) (n + 55)
-
--- bytes as pairs of hex digits
-abbrev pub hexOf : List ℕ → List ℕ
-hexOf [] = []
-hexOf (b ∷ r) = hexChar (b / 16) ∷ hexChar (b % 16) ∷ hexOf r
-
--- "Numbers are decimal": as few digits as a number below 100,000 has
-unfoldable pub places : ℕ → ℕ
-places n = cond (ltb n 10) 1 (cond (ltb n 100) 2 (cond (ltb n 1000) 3 (cond (ltb n 10000) 4 5)))
-
-unfoldable pub decimal : ℕ → List ℕ
-decimal n = digits 10 (places n) n
-
--- a space in front, and the line's end behind
-abbrev pub spaced : List ℕ → List ℕ
-spaced w = 32 ∷ w
-
-abbrev pub newline : List ℕ
-newline = 10 ∷ []
-
--- ---- the answers
 
 -- an answer with its bytes
 pub data Told : Type 0 where
@@ -53,89 +23,28 @@ pub data Told : Type 0 where
   help : Told
   error : Told
 
--- "one line that names the commands", each with the words that it takes, between commas
-abbrev pub hexWord : List ℕ
-hexWord = 72 ∷ 69 ∷ 88 ∷ []
-
-abbrev pub bitsWord : List ℕ
-bitsWord = 66 ∷ 73 ∷ 84 ∷ 83 ∷ []
-
-abbrev pub numberWord : List ℕ
-numberWord = 78 ∷ []
-
-abbrev pub byteWord : List ℕ
-byteWord = 72 ∷ 72 ∷ []
-
-abbrev pub comma : List ℕ
-comma = 44 ∷ []
-
+-- "one line that names the commands", each with the words that it takes
 abbrev pub helpText : List ℕ
 helpText =
-    commandsName
-    ++ (58 ∷ [])
-    ++ spaced imageName
-    ++ spaced hexWord
-    ++ comma
-    ++ spaced bufferName
-    ++ spaced numberWord
-    ++ comma
-    ++ spaced fieldName
-    ++ comma
-    ++ spaced frameName
-    ++ spaced bitsWord
-    ++ spaced hexWord
-    ++ comma
-    ++ spaced parityName
-    ++ spaced bitsWord
-    ++ spaced hexWord
-    ++ comma
-    ++ spaced startName
-    ++ comma
-    ++ spaced stopName
-    ++ comma
-    ++ spaced sendName
-    ++ spaced byteWord
-    ++ comma
-    ++ spaced readName
-    ++ spaced ackName
-    ++ comma
-    ++ spaced readName
-    ++ spaced nakName
-    ++ comma
-    ++ spaced eventName
-    ++ spaced numberWord
-    ++ spaced byteWord
-    ++ comma
-    ++ spaced showName
-    ++ comma
-    ++ spaced helpName
+    text "commands: image HEX, buffer N, field, frame BITS HEX, parity BITS HEX, start, stop, send HH, read ack, read nak, event N HH, show, help"
 
--- "`image` alone where it is empty"
-abbrev pub imageText : List ℕ → List ℕ
-imageText [] = imageName
-imageText (b ∷ r) = imageName ++ spaced (hexOf (b ∷ r))
+-- the parts of its line
+abbrev pub partsOf : Told → List Part
+partsOf (taken n) = word (text "image ") ∷ number n ∷ []
+partsOf (lent n) = word (text "buffer ") ∷ number n ∷ []
+partsOf lost = word (text "field") ∷ []
+partsOf (bits n xs) = word (text "answer ") ∷ number n ∷ tail xs ∷ []
+partsOf silence = word (text "silence") ∷ []
+partsOf (refused k) = word (text "refused ") ∷ number k ∷ []
+partsOf done = word (text "done") ∷ []
+partsOf acknowledged = word (text "ack") ∷ []
+partsOf declined = word (text "nak") ∷ []
+partsOf (byte b) = word (text "byte ") ∷ hex (b ∷ []) ∷ []
+partsOf (shown xs) = word (text "image") ∷ tail xs ∷ []
+partsOf help = word helpText ∷ []
+partsOf error = word (text "error") ∷ []
 
--- the answers, without the line's end
-abbrev pub textOf : Told → List ℕ
-textOf (taken n) = imageName ++ spaced (decimal n)
-textOf (lent n) = bufferName ++ spaced (decimal n)
-textOf lost = fieldName
-textOf (bits n xs) = answerName ++ spaced (decimal n) ++ spaced (hexOf xs)
-textOf silence = silenceName
-textOf (refused k) = refusedName ++ spaced (decimal k)
-textOf done = doneName
-textOf acknowledged = ackName
-textOf declined = nakName
-textOf (byte b) = byteName ++ spaced (hexOf (b ∷ []))
-textOf (shown xs) = imageText xs
-textOf help = helpText
-textOf error = errorName
-
--- "writes exactly one line for each": the first r bytes of a buffer are this line
-pub record Line (text : List ℕ) (r : ℕ) (out : List ℕ) : Type 0 where
-  pub whole : take r out ≡ text ++ newline
-
--- ---- an answer and the buffers beside it
+-- ---- an answer of the code, and the buffers beside it
 
 -- "bits packed least significant first": so many bits take their number, rounded up to bytes
 abbrev pub bytesIn : ℕ → ℕ
@@ -156,3 +65,19 @@ tells (answer.Byte b) buf img = byte b
 tells (answer.Shown n) buf img = shown (take n img)
 tells answer.Help buf img = help
 tells answer.Error buf img = error
+
+-- an answer of at most 1,024 bytes, which is 8,192 bits, and an image of at most 1,024
+abbrev pub AnswerFits : Answer → Type 0
+AnswerFits (answer.Taken n) = Unit
+AnswerFits (answer.Lent n) = Unit
+AnswerFits answer.Lost = Unit
+AnswerFits (answer.Bits n) = n ≤ 8192
+AnswerFits answer.Silence = Unit
+AnswerFits (answer.Refused k) = Unit
+AnswerFits answer.Done = Unit
+AnswerFits answer.Acknowledged = Unit
+AnswerFits answer.Declined = Unit
+AnswerFits (answer.Byte b) = Unit
+AnswerFits (answer.Shown n) = n ≤ 1024
+AnswerFits answer.Help = Unit
+AnswerFits answer.Error = Unit

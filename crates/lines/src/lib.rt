@@ -1,4 +1,3 @@
 // The lines of the corridor program: what a line asks for, and the line that answers it.
 pub mod read;
-pub mod words;
 pub mod write;

@@ -1,19 +1,15 @@
-// Reading a line: the command that its words make.
-use crate::words::Byte;
-use crate::words::Bytes;
-use crate::words::Number;
-use crate::words::byte_of;
-use crate::words::bytes_of;
-use crate::words::number_of;
-use crate::words::word_end;
-use check::same;
+// Reading a line: the command that its first word names, and its arguments.
+use words::args::Given;
+use words::args::Kind;
+use words::args::Shape;
+use words::args::args_of;
+use words::word::packed;
+use words::word::word_end;
 ghost use mathlib.Core.Path.{_≡_};
-ghost use mathlib.Core.List.{List};
-ghost use Prim.Native.Nat.{ℕ, _≤_};
+ghost use Prim.Native.Nat.{_≤_};
 ghost use lib.ListN.{length, take};
-ghost use Rattle.lines.specs.Bounds.{CommandFits};
-ghost use Rattle.lines.specs.Words.{numberOf, givenOf, byteOf};
-ghost use Rattle.lines.specs.Said.{verbOf, busVerb, otherVerb, says, aloneOf, withOf, imageOf, bufferOf, frameOf, readOf, eventWith, eventOf, saidOf, isSkipped};
+ghost use Rattle.words.specs.Args.{kindsOf, roomFor, saidBy};
+ghost use Rattle.lines.specs.Said.{rowOf, verbOf, saidOf, isSkipped, AskedFits};
 
 // Room for the bytes of an image or of a frame, from its start.
 pub type Sent = [u8; 8192];
@@ -21,26 +17,6 @@ pub type Sent = [u8; 8192];
 // The longest line that is a command: `parity 65535` with 8,192 bytes.
 const LONGEST: usize = 16397;
 
-// What a line asks for. Bytes of an image or a frame stand in a buffer beside it, and the command has their count.
-pub enum Command {
-    Image(usize),
-    Buffer(usize),
-    Field,
-    Frame {
-        bits: usize,
-        count: usize,
-        good: bool,
-    },
-    Event {
-        number: usize,
-        byte: u8,
-    },
-    Show,
-    Help,
-    Wrong,
-}
-
-// The first word of a line.
 pub enum Verb {
     Image,
     Buffer,
@@ -54,64 +30,97 @@ pub enum Verb {
     Event,
     Show,
     Help,
-    Unknown,
 }
 
-// Which command a word names: one of the image, the buffer and frames,
-fn verb_of(word: &[u8]) -> Verb
-    ensures { λ r. ⌜ r ≡ verbOf (now (word .entry)) ⌝ }
-{
-    if same(word, b"frame") {
-        return Verb::Frame;
-    }
-    if same(word, b"parity") {
-        return Verb::Parity;
-    }
-    if same(word, b"image") {
-        return Verb::Image;
-    }
-    if same(word, b"buffer") {
-        return Verb::Buffer;
-    }
-    bus_verb(word)
+// A command and its arguments.
+pub struct Row(pub Verb, pub Shape);
+
+// What a line asks for: a command, and its arguments or why it has none. The bytes stand in a buffer beside it.
+pub struct Asked {
+    pub verb: Verb,
+    pub given: Given,
 }
 
-// .. or one of the two wires,
-fn bus_verb(word: &[u8]) -> Verb
-    ensures { λ r. ⌜ r ≡ busVerb (now (word .entry)) ⌝ }
-{
-    if same(word, b"start") {
-        return Verb::Start;
-    }
-    if same(word, b"stop") {
-        return Verb::Stop;
-    }
-    if same(word, b"send") {
-        return Verb::Send;
-    }
-    if same(word, b"read") {
-        return Verb::Read;
-    }
-    other_verb(word)
-}
+// The words as numbers: the first letter is the lowest byte.
+const IMAGE: u64 = 0x1_65_67_61_6d_69;
 
-// .. or one of the others.
-fn other_verb(word: &[u8]) -> Verb
-    ensures { λ r. ⌜ r ≡ otherVerb (now (word .entry)) ⌝ }
+const BUFFER: u64 = 0x1_72_65_66_66_75_62;
+
+const FIELD: u64 = 0x1_64_6c_65_69_66;
+
+const FRAME: u64 = 0x1_65_6d_61_72_66;
+
+const PARITY: u64 = 0x1_79_74_69_72_61_70;
+
+const START: u64 = 0x1_74_72_61_74_73;
+
+const STOP: u64 = 0x1_70_6f_74_73;
+
+const SEND: u64 = 0x1_64_6e_65_73;
+
+const READ: u64 = 0x1_64_61_65_72;
+
+const EVENT: u64 = 0x1_74_6e_65_76_65;
+
+const SHOW: u64 = 0x1_77_6f_68_73;
+
+const HELP: u64 = 0x1_70_6c_65_68;
+
+const ACK: u64 = 0x1_6b_63_61;
+
+const NAK: u64 = 0x1_6b_61_6e;
+
+// The arguments that the lines have.
+const NONE: Kind = Kind::Nothing;
+
+const NUMBER: Kind = Kind::Number {
+    base: 10,
+    least: 1,
+    digits: 5,
+    most: 65535,
+};
+
+const KILO: Kind = Kind::Number {
+    base: 10,
+    least: 1,
+    digits: 5,
+    most: 1024,
+};
+
+const BYTE: Kind = Kind::Number {
+    base: 16,
+    least: 2,
+    digits: 2,
+    most: 255,
+};
+
+const ACK_NAK: Kind = Kind::Either(ACK, NAK);
+
+const IMAGE_HEX: Kind = Kind::Hex(1024);
+
+const FRAME_HEX: Kind = Kind::Hex(8192);
+
+// The row of a word. Where it is no command the shape says so, and the verb means nothing.
+fn row_of(word: &[u8]) -> Row
+    ensures { λ r. ⌜ roomFor (kindsOf (r .1)) ≤ 8192 ⌝ }
+    ensures { λ r. ⌜ r ≡ rowOf (now (word .entry)) ⌝ }
 {
-    if same(word, b"event") {
-        return Verb::Event;
+    let k = packed(word);
+    match k {
+        IMAGE => Row(Verb::Image, Shape(0, IMAGE_HEX, NONE, NONE)),
+        BUFFER => Row(Verb::Buffer, Shape(1, KILO, NONE, NONE)),
+        FIELD => Row(Verb::Field, Shape(0, NONE, NONE, NONE)),
+        FRAME => Row(Verb::Frame, Shape(1, NUMBER, FRAME_HEX, NONE)),
+        PARITY => Row(Verb::Parity, Shape(1, NUMBER, FRAME_HEX, NONE)),
+        START => Row(Verb::Start, Shape(0, NONE, NONE, NONE)),
+        STOP => Row(Verb::Stop, Shape(0, NONE, NONE, NONE)),
+        SEND => Row(Verb::Send, Shape(1, BYTE, NONE, NONE)),
+        READ => Row(Verb::Read, Shape(1, ACK_NAK, NONE, NONE)),
+        EVENT => Row(Verb::Event, Shape(2, NUMBER, BYTE, NONE)),
+        SHOW => Row(Verb::Show, Shape(0, NONE, NONE, NONE)),
+        HELP => Row(Verb::Help, Shape(0, NONE, NONE, NONE)),
+        _ => Row(Verb::Help, Shape(4, NONE, NONE, NONE)),
     }
-    if same(word, b"field") {
-        return Verb::Field;
-    }
-    if same(word, b"show") {
-        return Verb::Show;
-    }
-    if same(word, b"help") {
-        return Verb::Help;
-    }
-    Verb::Unknown
 }
 
 // Whether the line that the first `len` bytes of `line` are is answered by nothing: an empty line, or a comment.
@@ -125,160 +134,24 @@ pub fn is_skipped(line: &[u8], len: usize) -> bool
     line[0] == b'#'
 }
 
-// The command that the first `len` bytes of `line` make.
-pub fn command_of(line: &[u8], len: usize, bytes: &mut Sent) -> Command
+// What the line that the first `len` bytes of `line` are asks for.
+pub fn asked_of(line: &[u8], len: usize, bytes: &mut Sent) -> Asked
     requires { ⌜ len ≤ length (now line) ⌝ }
-    ensures { λ r. ⌜ CommandFits r ⌝ }
-    ensures { λ r. ⌜ says r (now (bytes .exit)) ≡ saidOf (take len (now (line .entry))) ⌝ }
+    ensures { λ r. ⌜ AskedFits r ⌝ }
+    ensures { λ r. ⌜ (r .verb ≡ verbOf (take len (now (line .entry)))) × (saidBy (r .given) (now (bytes .exit)) ≡ saidOf (take len (now (line .entry)))) ⌝ }
 {
-    command_in(&line[0..len], bytes)
+    asked_in(&line[0..len], bytes)
 }
 
-// The command that a whole line makes.
-fn command_in(text: &[u8], bytes: &mut Sent) -> Command
-    ensures { λ r. ⌜ CommandFits r ⌝ }
-    ensures { λ r. ⌜ says r (now (bytes .exit)) ≡ saidOf (now (text .entry)) ⌝ }
+// What a whole line asks for.
+fn asked_in(text: &[u8], bytes: &mut Sent) -> Asked
+    ensures { λ r. ⌜ AskedFits r ⌝ }
+    ensures { λ r. ⌜ (r .verb ≡ verbOf (now (text .entry))) × (saidBy (r .given) (now (bytes .exit)) ≡ saidOf (now (text .entry))) ⌝ }
 {
-    if text.len() > LONGEST {
-        return Command::Wrong;
-    }
-    let end = word_end(text);
-    let verb = verb_of(&text[0..end]);
-    if end < text.len() {
-        let start = end + 1;
-        return with_rest(verb, &text[start..], bytes);
-    }
-    alone(verb)
-}
-
-// A command of one word.
-fn alone(verb: Verb) -> Command
-    ensures { λ r. ⌜ CommandFits r ⌝ }
-    ensures { λ r. ⌜ ((xs : List ℕ) → says r xs ≡ aloneOf verb) ⌝ }
-{
-    match verb {
-        Verb::Image => Command::Image(0),
-        Verb::Field => Command::Field,
-        Verb::Start => Command::Event { number: 0, byte: 0 },
-        Verb::Stop => Command::Event { number: 1, byte: 0 },
-        Verb::Show => Command::Show,
-        Verb::Help => Command::Help,
-        Verb::Buffer => Command::Wrong,
-        Verb::Frame => Command::Wrong,
-        Verb::Parity => Command::Wrong,
-        Verb::Send => Command::Wrong,
-        Verb::Read => Command::Wrong,
-        Verb::Event => Command::Wrong,
-        Verb::Unknown => Command::Wrong,
-    }
-}
-
-// A command whose first word is followed by a space and `rest`, which is cut no further than the command needs: a space too many is then no
-// digit.
-fn with_rest(verb: Verb, rest: &[u8], bytes: &mut Sent) -> Command
-    ensures { λ r. ⌜ CommandFits r ⌝ }
-    ensures { λ r. ⌜ says r (now (bytes .exit)) ≡ withOf verb (now (rest .entry)) ⌝ }
-{
-    match verb {
-        Verb::Image => image_of(rest, bytes),
-        Verb::Buffer => buffer_of(rest),
-        Verb::Frame => frame_of(rest, true, bytes),
-        Verb::Parity => frame_of(rest, false, bytes),
-        Verb::Send => event_with(2, rest),
-        Verb::Read => read_of(rest),
-        Verb::Event => event_of(rest),
-        Verb::Field => Command::Wrong,
-        Verb::Start => Command::Wrong,
-        Verb::Stop => Command::Wrong,
-        Verb::Show => Command::Wrong,
-        Verb::Help => Command::Wrong,
-        Verb::Unknown => Command::Wrong,
-    }
-}
-
-fn image_of(rest: &[u8], bytes: &mut Sent) -> Command
-    ensures { λ r. ⌜ CommandFits r ⌝ }
-    ensures { λ r. ⌜ says r (now (bytes .exit)) ≡ imageOf (givenOf 1024 (now (rest .entry))) ⌝ }
-{
-    match bytes_of(rest, bytes, 1024) {
-        Bytes::Count(n) => Command::Image(n),
-        Bytes::None => Command::Wrong,
-    }
-}
-
-fn buffer_of(rest: &[u8]) -> Command
-    ensures { λ r. ⌜ CommandFits r ⌝ }
-    ensures { λ r. ⌜ ((xs : List ℕ) → says r xs ≡ bufferOf (numberOf (now (rest .entry)))) ⌝ }
-{
-    match number_of(rest) {
-        Number::Of(n) => {
-            if n <= 1024 {
-                Command::Buffer(n)
-            } else {
-                Command::Wrong
-            }
-        }
-        Number::None => Command::Wrong,
-    }
-}
-
-fn frame_of(rest: &[u8], good: bool, bytes: &mut Sent) -> Command
-    ensures { λ r. ⌜ CommandFits r ⌝ }
-    ensures { λ r. ⌜ says r (now (bytes .exit)) ≡ frameOf good (now (rest .entry)) ⌝ }
-{
-    let end = word_end(rest);
-    let Number::Of(bits) = number_of(&rest[0..end]) else {
-        return Command::Wrong;
-    };
-    if end < rest.len() {
-        let start = end + 1;
-        return match bytes_of(&rest[start..], bytes, 8192) {
-            Bytes::Count(count) => Command::Frame { bits, count, good },
-            Bytes::None => Command::Wrong,
-        };
-    }
-    Command::Frame {
-        bits,
-        count: 0,
-        good,
-    }
-}
-
-fn read_of(rest: &[u8]) -> Command
-    ensures { λ r. ⌜ CommandFits r ⌝ }
-    ensures { λ r. ⌜ ((xs : List ℕ) → says r xs ≡ readOf (now (rest .entry))) ⌝ }
-{
-    if same(rest, b"ack") {
-        return Command::Event { number: 3, byte: 0 };
-    }
-    if same(rest, b"nak") {
-        return Command::Event { number: 4, byte: 0 };
-    }
-    Command::Wrong
-}
-
-// The event of this number with the byte that `word` has.
-fn event_with(number: usize, word: &[u8]) -> Command
-    ensures { λ r. ⌜ CommandFits r ⌝ }
-    ensures { λ r. ⌜ ((xs : List ℕ) → says r xs ≡ eventWith number (byteOf (now (word .entry)))) ⌝ }
-{
-    match byte_of(word) {
-        Byte::Of(byte) => Command::Event { number, byte },
-        Byte::None => Command::Wrong,
-    }
-}
-
-fn event_of(rest: &[u8]) -> Command
-    ensures { λ r. ⌜ CommandFits r ⌝ }
-    ensures { λ r. ⌜ ((xs : List ℕ) → says r xs ≡ eventOf (now (rest .entry))) ⌝ }
-{
-    let end = word_end(rest);
-    let Number::Of(n) = number_of(&rest[0..end]) else {
-        return Command::Wrong;
-    };
-    if end < rest.len() {
-        let start = end + 1;
-        return event_with(n, &rest[start..]);
-    }
-    Command::Wrong
+    let end = word_end(text, 0);
+    let row = row_of(&text[0..end]);
+    let verb = row.0;
+    let shape = row.1;
+    let given = args_of(shape, text, LONGEST, bytes);
+    Asked { verb, given }
 }

@@ -6,7 +6,7 @@ use native.Mathlib.Omega.{arith}
 use native.Mathlib.Numerals.{one-add}
 use lib.Pow.{shr-shr, pow-mono}
 use lib.Bits.{bitAnd, bitOr, or-step, and-step, or-shr, and-shr}
-use Rattle.locks.specs.Bits.{bitAt, ofBits, row, Gains}
+use Rattle.locks.specs.Bits.{bitAt, ofBits, Gains}
 
 pub or-bit : (a b i : ℕ) → bitAt (bitOr a b) i ≡ max (bitAt a i) (bitAt b i)
 or-bit a b i = rw or-shr (omega (arith, or-step (a / 2 ^ i) (b / 2 ^ i)))
@@ -71,10 +71,6 @@ ofBits-zeros (suc k) zero f g l same none = absurd (not-suc-le-zero l)
 ofBits-zeros (suc k) (suc m) f g l same none =
     ap₂ (λ (x y : ℕ). x + 2 * y) (same 0 (zero-lt-suc k))
     (ofBits-zeros k m (λ i. f (suc i)) (λ i. g (suc i)) (le-of-suc-le-suc l) (λ i b. same (suc i) (suc-le-suc b)) (λ i b. none (suc i) (suc-le-suc b)))
-
--- a row's two bytes
-pub row-bytes : (x : ℕ) → row (x % 256) (x / 256) ≡ x
-row-bytes x = omega arith
 
 -- ---- a number gathered from the top down, two bits at a time that are both x: bits 2 * i and up of f's n
 

@@ -6,6 +6,7 @@ use native.Mathlib.Omega.{arith}
 use lib.Bits.{bitAnd, bitOr, or-lt, and-lt}
 use lib.Dec.{ltb}
 use borrow.Author.Tests.{le-ltb}
+use Rattle.basics.proofs.Choice.{by}
 use Rattle.locks.specs.Bits.{bitAt, ofBits, Gains}
 use Rattle.locks.specs.Locks.{lockBits, clearAt, gain, staticBlock, mayStatic, staticGain, dynamicBlock, mayDynamic, dynamicGain, mayBlock, blockGain}
 use Rattle.locks.proofs.Bits.{bitAt-ofBits, ofBits-lt, by-bits, or-bit, and-bit}
@@ -82,11 +83,8 @@ dynamic-keeps n blocks dynamics d = gain-keeps 16 (mayDynamic n blocks) dynamics
 -- a lock bit whose block bit was set before the write doesn't change
 pub dynamic-blocked : (n blocks dynamics d i : ℕ) → i < 16 → bitAt blocks (dynamicBlock i) ≡ 1 → bitAt (dynamicGain n blocks dynamics d) i ≡ bitAt dynamics i
 unfolding dynamicGain mayDynamic
-dynamic-blocked n blocks dynamics d i l b = gain-shut 16 (mayDynamic n blocks) dynamics d i l (either (ltb i (lockBits n)))
-  where
-    either : (t : Bool) → cond t (clearAt blocks (dynamicBlock i)) 0 ≡ 0
-    either true = blocked blocks (dynamicBlock i) b
-    either false = refl
+dynamic-blocked n blocks dynamics d i l b =
+    gain-shut 16 (mayDynamic n blocks) dynamics d i l (by (λ (m : ℕ). m ≡ 0) (ltb i (lockBits n)) (λ _. blocked blocks (dynamicBlock i) b) (λ _. refl))
 
 -- nor does one that isn't defined
 pub dynamic-undefined : (n blocks dynamics d i : ℕ) → i < 16 → lockBits n ≤ i → bitAt (dynamicGain n blocks dynamics d) i ≡ bitAt dynamics i

@@ -7,8 +7,9 @@ use Prim.Native.Nat.{ℕ, _+_, _-_, _*_, _/_, _%_, _≤_, _<_}
 use native.Mathlib.Omega.{arith}
 use lib.Dec.{leb, ltb, eqb}
 use borrow.Author.Tests.{ltb-true, eqb-true, eq-eqb, lt-ltb, le-ltb, le-leb, lt-leb}
+use Rattle.basics.proofs.Choice.{by}
 use Rattle.locks.specs.Bits.{bitAt, isSet, Gains, ofBits}
-use Rattle.locks.specs.Locks.{Sized, lockPage, lockBits, pagesEach, dynamicBlock, lockOf, setIn, lockedBy, clearAt, mayDynamic}
+use Rattle.locks.specs.Locks.{Sized, lockPage, lockBits, pagesEach, dynamicBlock, lockOf, bitOf, setIn, lockedBy, isBit, clearAt, mayDynamic}
 use Rattle.locks.specs.Table.{firstPage, lastPage, blockBit, rowFor, rowAt, firstRow, Covers, mayRow}
 use Rattle.locks.proofs.Bits.{ofBits-zeros}
 use Rattle.locks.proofs.Table.{agree}
@@ -62,12 +63,9 @@ row-covers n p s =
 
 pub block-lt : (k : ℕ) (r : Row) → k < 34 → r ≡ rowAt k → blockBit r < 16
 unfolding rowAt rowFor dynamicBlock
-block-lt k r h e = rw e (pick (ltb k 12) (ltb k 20) refl refl)
-  where
-    pick : (s t : Bool) → ltb k 12 ≡ s → ltb k 20 ≡ t → blockBit (cond s (rowFor 45 k) (cond t (rowFor 135 (k - 12)) (rowFor 231 (k - 20)))) < 16
-    pick true t p q = let l = ltb-true k 12 p in omega arith
-    pick false true p q = let l = ltb-true k 20 q in omega arith
-    pick false false p q = omega arith
+block-lt k r h e =
+    let P : Row → Type 0 = λ r. blockBit r < 16 in
+    rw e (by P (ltb k 12) (λ p. let l = ltb-true k 12 p in omega arith) (λ _. by P (ltb k 20) (λ p. let l = ltb-true k 20 p in omega arith) (λ _. omega arith)))
 
 -- "bit k blocks lock bits 2k and 2k+1"
 same-block : (k : ℕ) → k % 2 ≡ 0 → k < 34 → blockBit (rowAt k) ≡ blockBit (rowAt (k + 1))
@@ -87,12 +85,7 @@ pair-may r start blocks i x e even l h =
 
 lockBits≤16 : (n : ℕ) → lockBits n ≤ 16
 unfolding lockBits
-lockBits≤16 n = pick (eqb n 45) (eqb n 135)
-  where
-    pick : (s t : Bool) → cond s 12 (cond t 8 14) ≤ 16
-    pick true t = omega arith
-    pick false true = omega arith
-    pick false false = omega arith
+lockBits≤16 n = by (λ (k : ℕ). k ≤ 16) (eqb n 45) (λ _. omega arith) (λ _. by (λ (k : ℕ). k ≤ 16) (eqb n 135) (λ _. omega arith) (λ _. omega arith))
 
 -- the bits that the rows of a size leave open are those that document 01's arithmetic does
 pub rows-open : (n start count blocks mask : ℕ) → Sized n → start ≡ firstRow n → count ≡ lockBits n → mask ≡ ofBits count (mayRow start blocks)
@@ -145,51 +138,65 @@ module _ (n count i p : ℕ) (s : Sized n) (h : 16 ≤ p) (b : count ≡ lockBit
         let within = row-within n i p s (rw is-row at m) in
         simp (le-leb 3 p (omega arith), lt-ltb p (lockPage n) within, le-ltb p 16 h) (ap Dynamic e)
 
--- ---- the lock bit that was found is one of sixteen
+-- ---- the lock bit of a page is one of sixteen
 
-bit-of : LockBit → ℕ
-bit-of (Static i) = i
-bit-of (Dynamic i) = i
-bit-of Absent = 0
-
-lock-lt : (n p : ℕ) → Sized n → bit-of (lockOf n p) < 16
-unfolding lockOf pagesEach bit-of
-lock-lt n p = by-size (λ n. bit-of (lockOf n p) < 16) (one 40 2 (λ l. omega arith)) (one 130 16 (λ l. omega arith)) (one 226 16 (λ l. omega arith))
+pub lock-lt : (n p : ℕ) (r : LockBit) → Sized n → r ≡ lockOf n p → bitOf r < 16
+unfolding lockOf pagesEach
+lock-lt n p r s e = rw e (by-size (λ n. bitOf (lockOf n p) < 16) (one 40 2 (λ l. omega arith)) (one 130 16 (λ l. omega arith)) (one 226 16 (λ l. omega arith)) s)
   where
-    one : (end′ w : ℕ) → (p < end′ → (p - 16) / w < 16) → bit-of (cond (leb 3 p && ltb p end′) (cond (ltb p 16) (Static p) (Dynamic ((p - 16) / w))) Absent) < 16
+    one : (end′ w : ℕ) → (p < end′ → (p - 16) / w < 16) → bitOf (cond (leb 3 p && ltb p end′) (cond (ltb p 16) (Static p) (Dynamic ((p - 16) / w))) Absent) < 16
     one end′ w h = pick (leb 3 p) (ltb p end′) (ltb p 16) refl refl
       where
-        pick : (a b t : Bool) → ltb p end′ ≡ b → ltb p 16 ≡ t → bit-of (cond (a && b) (cond t (Static p) (Dynamic ((p - 16) / w))) Absent) < 16
+        pick : (a b t : Bool) → ltb p end′ ≡ b → ltb p 16 ≡ t → bitOf (cond (a && b) (cond t (Static p) (Dynamic ((p - 16) / w))) Absent) < 16
         pick false b t e f = omega arith
         pick true false t e f = omega arith
         pick true true true e f = ltb-true p 16 f
         pick true true false e f = h (ltb-true p end′ e)
 
-pub static-bit : (n p i : ℕ) (r : LockBit) → Sized n → r ≡ lockOf n p → r ≡ Static i → i < 16
-unfolding bit-of
-static-bit n p i r s e h = subst (λ (b : LockBit). bit-of b < 16) (sym e ∙ h) (lock-lt n p s)
+pub static-bit : (i : ℕ) (l : LockBit) → bitOf l < 16 → l ≡ Static i → i < 16
+static-bit i l h e = rw e at h
 
-pub dynamic-bit : (n p i : ℕ) (r : LockBit) → Sized n → r ≡ lockOf n p → r ≡ Dynamic i → i < 16
-unfolding bit-of
-dynamic-bit n p i r s e h = subst (λ (b : LockBit). bit-of b < 16) (sym e ∙ h) (lock-lt n p s)
+pub dynamic-bit : (i : ℕ) (l : LockBit) → bitOf l < 16 → l ≡ Dynamic i → i < 16
+dynamic-bit i l h e = rw e at h
 
 -- ---- the answer
 
-module _ (n statics dynamics p : ℕ) (r : LockBit) (e : r ≡ lockOf n p) where
-  pub asked : (b : Bool) (l : LockBit) → r ≡ l → b ≡ setIn statics dynamics l → b ≡ lockedBy n statics dynamics p
+pub asked : (statics dynamics : ℕ) (l l′ : LockBit) (b : Bool) → l ≡ l′ → b ≡ setIn statics dynamics l′ → b ≡ setIn statics dynamics l
+asked statics dynamics l l′ b e h = rw e h
+
+module _ (n statics dynamics p : ℕ) (r : LockBit) (e : r ≡ lockOf n p) (b : Bool) (q : b ≡ setIn statics dynamics r) where
+  pub set-locks : b ≡ true → r ≡ lockedBy n statics dynamics p
   unfolding lockedBy
-  asked b l h q = rw (← e, h) q
+  set-locks h = rw (← e, ← q, h)
+
+  pub clear-open : b ≡ false → Absent ≡ lockedBy n statics dynamics p
+  unfolding lockedBy
+  clear-open h = rw (← e, ← q, h)
+
+-- a page is locked exactly where its lock bit is set
+pub locked-set : (n statics dynamics p : ℕ) → isBit (lockedBy n statics dynamics p) ≡ setIn statics dynamics (lockOf n p)
+unfolding lockedBy
+locked-set n statics dynamics p = pick (lockOf n p)
+  where
+    kept : (b : Bool) (l : LockBit) → isBit l ≡ true → isBit (cond b l Absent) ≡ b
+    kept true l e = e
+    kept false l e = refl
+
+    pick : (l : LockBit) → isBit (cond (setIn statics dynamics l) l Absent) ≡ setIn statics dynamics l
+    pick (Static i) = kept (isSet statics i) (Static i) refl
+    pick (Dynamic i) = kept (isSet dynamics i) (Dynamic i) refl
+    pick Absent = refl
 
 -- a page once locked stays locked while no lock bit clears
 pub stays-locked : (n p statics dynamics statics′ dynamics′ : ℕ) → Sized n → Gains 16 statics statics′ → Gains 16 dynamics dynamics′
-    → lockedBy n statics dynamics p ≡ true → lockedBy n statics′ dynamics′ p ≡ true
-unfolding lockedBy setIn bit-of
-stays-locked n p statics dynamics statics′ dynamics′ s g h = pick (lockOf n p) (lock-lt n p s)
+    → isBit (lockedBy n statics dynamics p) ≡ true → isBit (lockedBy n statics′ dynamics′ p) ≡ true
+stays-locked n p statics dynamics statics′ dynamics′ s g h e =
+    locked-set n statics′ dynamics′ p ∙ pick (lockOf n p) (lock-lt n p (lockOf n p) s refl) (sym (locked-set n statics dynamics p) ∙ e)
   where
     still : (a b i : ℕ) → bitAt a i ≤ bitAt b i → isSet a i ≡ true → isSet b i ≡ true
     still a b i l e = eq-eqb (bitAt b i) 1 (omega (arith, eqb-true (bitAt a i) 1 e))
 
-    pick : (l : LockBit) → bit-of l < 16 → setIn statics dynamics l ≡ true → setIn statics′ dynamics′ l ≡ true
+    pick : (l : LockBit) → bitOf l < 16 → setIn statics dynamics l ≡ true → setIn statics′ dynamics′ l ≡ true
     pick (Static i) l e = still statics statics′ i (g i l) e
     pick (Dynamic i) l e = still dynamics dynamics′ i (h i l) e
     pick Absent l e = e

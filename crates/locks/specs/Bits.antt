@@ -15,10 +15,6 @@ abbrev pub ofBits : ℕ → (ℕ → ℕ) → ℕ
 ofBits zero f = 0
 ofBits (suc k) f = f 0 + 2 * ofBits k (λ i. f (suc i))
 
--- two bytes as a row of sixteen bits, "numbered 0-15, least significant first"
-abbrev pub row : ℕ → ℕ → ℕ
-row low high = low + 256 * high
-
 -- of k bits none that is set in a is clear in b
 abbrev pub Gains : ℕ → ℕ → ℕ → Type 0
 Gains k a b = (i : ℕ) → i < k → bitAt a i ≤ bitAt b i

@@ -1,9 +1,9 @@
--- The two kinds of locks, after document 01's "Static locks" and "Dynamic locks", as numbers alone: the static locks are the row of
--- sixteen bits in image bytes 10 and 11, the dynamic locks that in bytes 0 and 1 of the lock page, whose byte 2 has the block bits.
+-- The two kinds of locks, after document 01's "Static locks" and "Dynamic locks", as numbers alone: the static locks are the
+-- sixteen bits of image bytes 10 and 11, the dynamic locks those of bytes 0 and 1 of the lock page, whose byte 2 has the block bits.
 -- n is the number of pages. Assumes nothing.
 use mathlib.Core.Path.{_≡_}
 use mathlib.Core.Logic.{_⊎_}
-use mathlib.Core.Bool.{Bool, false, cond, _&&_}
+use mathlib.Core.Bool.{Bool, true, false, cond, _&&_}
 use Prim.Native.Nat.{ℕ, _-_, _/_, min, max}
 use lib.Dec.{eqb, leb, ltb}
 use Rattle.locks.specs.Bits.{bitAt, isSet, ofBits}
@@ -31,14 +31,25 @@ pagesEach n = cond (eqb n 45) 2 16
 unfoldable pub lockOf : ℕ → ℕ → LockBit
 lockOf n p = cond (leb 3 p && ltb p (lockPage n)) (cond (ltb p 16) (Static p) (Dynamic ((p - 16) / pagesEach n))) Absent
 
-unfoldable pub setIn : ℕ → ℕ → LockBit → Bool
+abbrev pub bitOf : LockBit → ℕ
+bitOf (Static i) = i
+bitOf (Dynamic i) = i
+bitOf Absent = 0
+
+abbrev pub setIn : ℕ → ℕ → LockBit → Bool
 setIn statics dynamics (Static i) = isSet statics i
 setIn statics dynamics (Dynamic i) = isSet dynamics i
 setIn statics dynamics Absent = false
 
--- whether page p is locked
-unfoldable pub lockedBy : ℕ → ℕ → ℕ → ℕ → Bool
-lockedBy n statics dynamics p = setIn statics dynamics (lockOf n p)
+-- which bit locks page p: its own where that is set, else none, and the page is open
+unfoldable pub lockedBy : ℕ → ℕ → ℕ → ℕ → LockBit
+lockedBy n statics dynamics p = let lock = lockOf n p in cond (setIn statics dynamics lock) lock Absent
+
+-- whether there is one
+abbrev pub isBit : LockBit → Bool
+isBit (Static i) = true
+isBit (Dynamic i) = true
+isBit Absent = false
 
 -- ---- what a WRITE sets
 
@@ -46,7 +57,7 @@ lockedBy n statics dynamics p = setIn statics dynamics (lockOf n p)
 unfoldable pub clearAt : ℕ → ℕ → ℕ
 clearAt b k = 1 - bitAt b k
 
--- A row of k bits after a write of d over old. Bit i is set if it was set, or if d sets it and it may be set, that is, may i is 1.
+-- k bits after a write of d over old. Bit i is set if it was set, or if d sets it and it may be set, that is, may i is 1.
 abbrev pub gain : ℕ → (ℕ → ℕ) → ℕ → ℕ → ℕ
 gain k may old d = ofBits k (λ i. max (bitAt old i) (min (bitAt d i) (may i)))
 

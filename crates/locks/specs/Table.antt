@@ -1,4 +1,5 @@
--- The table of all 34 dynamic lock bits, by its rule: rows 0-11 are N=45, rows 12-19 N=135, rows 20-33 N=231. Assumes nothing.
+-- Needed by the code alone: the rule of its table of all 34 dynamic lock bits, and what the table tells. Rows 0-11 are N=45, rows 12-19
+-- N=135, rows 20-33 N=231. Assumes nothing.
 use mathlib.Core.Bool.{cond}
 use Prim.Native.Nat.{ℕ, _+_, _-_, _*_, _≤_, min}
 use lib.Dec.{eqb, ltb}

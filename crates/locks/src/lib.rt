@@ -2,10 +2,10 @@
 ghost use mathlib.Core.Path.{_≡_};
 ghost use Prim.Native.Nat.{_+_, _-_, _/_, _%_, _≤_, _<_};
 ghost use Rattle.locks.specs.Bits.{isSet, ofBits};
-ghost use Rattle.locks.specs.Locks.{Sized, lockBits, pagesEach, lockOf, lockedBy, clearAt, mayStatic, staticGain, mayDynamic, dynamicGain, mayBlock, blockGain};
+ghost use Rattle.locks.specs.Locks.{Sized, lockBits, pagesEach, lockOf, bitOf, setIn, lockedBy, isBit, clearAt, mayStatic, staticGain, mayDynamic, dynamicGain, mayBlock, blockGain};
 ghost use Rattle.locks.specs.Table.{rowAt, firstRow, mayRow};
 
-// The bit that locks a page: of the static row, of the dynamic row, or none.
+// A lock bit: of the static locks, of the dynamic locks, or none.
 pub enum LockBit {
     Static(usize),
     Dynamic(usize),
@@ -132,23 +132,46 @@ pub fn lock_of(n: usize, page: usize) -> LockBit
     }
 }
 
-// Bit i of a row.
-pub fn is_set(row: u16, i: usize) -> bool
+// Bit i of a number.
+pub fn is_set(number: u16, i: usize) -> bool
     requires { ⌜ i < 16 ⌝ }
-    ensures { λ r. ⌜ r ≡ isSet row i ⌝ }
+    ensures { λ r. ⌜ r ≡ isSet number i ⌝ }
 {
-    (row >> i) % 2 == 1
+    (number >> i) % 2 == 1
 }
 
-// Whether a page is locked, by the two rows.
-pub fn is_locked(n: usize, statics: u16, dynamics: u16, page: usize) -> bool
+// Whether a lock bit is set.
+fn set_in(statics: u16, dynamics: u16, lock: LockBit) -> bool
+    requires { ⌜ bitOf lock < 16 ⌝ }
+    ensures { λ r. ⌜ r ≡ setIn statics dynamics lock ⌝ }
+{
+    match lock {
+        LockBit::Static(i) => is_set(statics, i),
+        LockBit::Dynamic(i) => is_set(dynamics, i),
+        LockBit::Absent => false,
+    }
+}
+
+// The bit that is set and locks a page, or none: then the page is open.
+pub fn locked_by(n: usize, statics: u16, dynamics: u16, page: usize) -> LockBit
     requires { ⌜ Sized n ⌝ }
     ensures { λ r. ⌜ r ≡ lockedBy n statics dynamics page ⌝ }
 {
     let lock = lock_of(n, page);
+    if set_in(statics, dynamics, lock) {
+        lock
+    } else {
+        LockBit::Absent
+    }
+}
+
+// Whether there is one.
+pub fn is_bit(lock: LockBit) -> bool
+    ensures { λ r. ⌜ r ≡ isBit lock ⌝ }
+{
     match lock {
-        LockBit::Static(i) => is_set(statics, i),
-        LockBit::Dynamic(i) => is_set(dynamics, i),
+        LockBit::Static(_) => true,
+        LockBit::Dynamic(_) => true,
         LockBit::Absent => false,
     }
 }
@@ -161,7 +184,7 @@ fn clear(b: u16, k: usize) -> u16
     1 - (b >> k) % 2
 }
 
-// The bits of the static row that a WRITE may set.
+// The static locks that a WRITE may set.
 fn static_mask(statics: u16) -> u16
     ensures { λ r. ⌜ r ≡ ofBits 16 (mayStatic statics) ⌝ }
 {
@@ -186,7 +209,7 @@ fn row_mask(start: usize, count: usize, blocks: u16) -> u16
     mask
 }
 
-// The bits of the dynamic row that a WRITE may set.
+// The dynamic locks that a WRITE may set.
 fn dynamic_mask(n: usize, blocks: u16) -> u16
     requires { ⌜ Sized n ⌝ }
     ensures { λ r. ⌜ r ≡ ofBits 16 (mayDynamic n blocks) ⌝ }
@@ -206,14 +229,14 @@ fn block_mask(n: usize) -> u8
     }
 }
 
-// The static row after a WRITE of page 2.
+// The static locks after a WRITE of page 2.
 pub fn static_gain(statics: u16, d: u16) -> u16
     ensures { λ r. ⌜ r ≡ staticGain statics d ⌝ }
 {
     statics | d & static_mask(statics)
 }
 
-// The dynamic row after a WRITE of the lock page, whose block bits were these before it.
+// The dynamic locks after a WRITE of the lock page, whose block bits were these before it.
 pub fn dynamic_gain(n: usize, blocks: u8, dynamics: u16, d: u16) -> u16
     requires { ⌜ Sized n ⌝ }
     ensures { λ r. ⌜ r ≡ dynamicGain n blocks dynamics d ⌝ }

@@ -1,4 +1,4 @@
--- What each way through the record and the frame call shows. Assumes nothing.
+-- What each way through the frame call shows. Assumes nothing.
 use mathlib.Core.Path.{_≡_, refl, sym, ap, _∙_, subst⁻¹}
 use mathlib.Core.List.{List}
 use mathlib.Core.Bool.{Bool, true, false}
@@ -8,67 +8,22 @@ use native.Mathlib.Omega.{arith}
 use lib.Dec.{eqb, leb, ltb}
 use lib.ListN.{length, drop, getD, length-append, List·getD-eq-default}
 use lib.Pow.{pow-pos}
-use borrow.Author.Tests.{ltb-true, ltb-false, eqb-true, ne-eqb, eq-eqb, lt-ltb, le-ltb, le-leb, lt-leb}
-use Rattle.image.specs.declared.Size.{Size}
-use Rattle.image.specs.declared.Size.the-variants.{Pages, Unknown}
+use borrow.Author.Tests.{ltb-true, ltb-false, eqb-true, ne-eqb, eq-eqb, lt-ltb, le-leb, lt-leb}
+use Rattle.image.specs.declared.layout.Size.{Size}
+use Rattle.image.specs.declared.layout.Size.the-variants.{Pages, Unknown}
 use Rattle.image.specs.Layout.{sizeOf, Fits}
 use Rattle.image.proofs.Laws as image
-use Rattle.tag.specs.declared.Wait.{Wait}
-use Rattle.tag.specs.declared.State.{State}
-use Rattle.tag.specs.declared.State.the-variants.{Ready1, Ready2, Active}
-use Rattle.tag.specs.declared.Tag.{Tag}
-use Rattle.tag.specs.declared.Step.{Step}
-use Rattle.tag.specs.State.{fieldOff}
+use Rattle.tag.specs.declared.state.State.{State}
+use Rattle.tag.specs.declared.state.Tag.{Tag}
+use Rattle.tag.specs.declared.outcome.Step.{Step}
 use Rattle.tag.specs.Outcome.{bitsOf, answerOf, over, apply, Did}
 use Rattle.tag.proofs.Laws.{answer-bytes}
-use Rattle.selection.proofs.Laws.{and-left, and-right}
-use Rattle.radio.specs.Record.{waitOf, stateOf, meant, tagOf, flagOf, waitNumber, recordIn, recordOf}
-use Rattle.radio.specs.Call.{heardIn, heard, padded, isFrame, refusal, taken, calledAt, called, Met}
-use Rattle.radio.specs.declared.TagRecord.{TagRecord}
-use Rattle.radio.specs.declared.Answer.{Answer}
-
--- ---- the record
-
-module _ (r : TagRecord) where
-  pub meant-state : 5 ≤ r .state → false ≡ meant r
-  unfolding meant
-  meant-state l = simp (le-ltb (r .state) 5 l)
-
-  pub meant-wait : r .state < 5 → 2 ≤ r .wait → false ≡ meant r
-  unfolding meant
-  meant-wait a l = simp (lt-ltb (r .state) 5 a, le-ltb (r .wait) 2 l)
-
-  pub meant-granted : r .state < 5 → r .wait < 2 → 2 ≤ r .authenticated → false ≡ meant r
-  unfolding meant
-  meant-granted a b l = simp (lt-ltb (r .state) 5 a, lt-ltb (r .wait) 2 b, le-ltb (r .authenticated) 2 l)
-
-  pub meant-answered : r .state < 5 → r .wait < 2 → r .authenticated < 2 → ltb (r .answered) 2 ≡ meant r
-  unfolding meant
-  meant-answered a b c = simp (lt-ltb (r .state) 5 a, lt-ltb (r .wait) 2 b, lt-ltb (r .authenticated) 2 c)
-
-  pub tag-meant : (b : Bool) (w : Wait) (s : State) → b ≡ meant r → b ≡ true → w ≡ waitOf (r .wait) → s ≡ stateOf (r .state) w (eqb (r .authenticated) 1)
-      → _≡_ {A = Tag} (record { state = s; answered = eqb (r .answered) 1 }) (tagOf r)
-  unfolding tagOf
-  tag-meant b w s e h f g = rw (← e, h, ← f, ← g)
-
-  pub tag-lost : (b : Bool) (t : Tag) → b ≡ meant r → b ≡ false → t ≡ fieldOff → t ≡ tagOf r
-  unfolding tagOf
-  tag-lost b t e h f = rw (← e, h) f
-
-module _ (t : Tag) (a : ℕ) (s : State) (r : TagRecord) (e : s ≡ t .state) (g : a ≡ flagOf (t .answered)) where
-  pub written-in : (s′ : State) → s ≡ s′ → r ≡ recordIn s′ a → r ≡ recordOf t
-  unfolding recordOf
-  written-in s′ f h = subst⁻¹ (λ (x : State). r ≡ recordIn x (flagOf (t .answered))) (sym e ∙ f) (h ∙ ap (recordIn s′) g)
-
-  module _ (w : Wait) (k : ℕ) (q : k ≡ waitNumber w) where
-    pub written-ready1 : s ≡ Ready1 w → r ≡ record { state = 2; wait = k; authenticated = 0; answered = a } → r ≡ recordOf t
-    written-ready1 f h = written-in (Ready1 w) f (unfold recordIn in rw (← q) h)
-
-    pub written-ready2 : s ≡ Ready2 w → r ≡ record { state = 3; wait = k; authenticated = 0; answered = a } → r ≡ recordOf t
-    written-ready2 f h = written-in (Ready2 w) f (unfold recordIn in rw (← q) h)
-
-    pub written-active : (g : Bool) (x : ℕ) → s ≡ Active w g → x ≡ flagOf g → r ≡ record { state = 4; wait = k; authenticated = x; answered = a } → r ≡ recordOf t
-    written-active g x f y h = written-in (Active w g) f (unfold recordIn in rw (← q, ← y) h)
+use Rattle.basics.proofs.Choice.{and-left, and-right}
+use Rattle.tag.specs.Record.{tagOf, recordOf}
+use Rattle.radio.specs.Heard.{heardIn, heard}
+use Rattle.radio.specs.Call.{padded, isFrame, refusal, taken, calledAt, called, Met}
+use Rattle.tag.specs.declared.record.TagRecord.{TagRecord}
+use Rattle.radio.specs.declared.call.Answer.{Answer}
 
 -- ---- the state
 
@@ -131,11 +86,11 @@ module _ (f : List ℕ) (bits : ℕ) where
 
 -- a refusal, for every image and buffer
 abbrev pub Refused : ℕ → TagRecord → Answer → Type 0
-Refused k held r = (img before : List ℕ) → Met (refusal k held) r img img before before
+Refused k rec r = (img before : List ℕ) → Met (refusal k rec) r img img before before
 
-pub refused-done : (k : ℕ) (held : TagRecord) → Refused k held (record { refused = k; bits = 0; left = held })
+pub refused-done : (k : ℕ) (rec : TagRecord) → Refused k rec (record { refused = k; bits = 0; left = rec })
 unfolding refusal bitsOf answerOf over apply
-refused-done k held img before = record { refused = refl; bits = refl; left = refl; image = refl; answer = refl; fits = omega arith }
+refused-done k rec img before = record { refused = refl; bits = refl; left = refl; image = refl; answer = refl; fits = omega arith }
 
 -- ---- the call
 
@@ -144,19 +99,19 @@ answer-fits : (a before after : List ℕ) → after ≡ over a before → length
 unfolding over
 answer-fits a before after e l = omega (arith, ap length e, length-append a (drop (length a) before))
 
-module _ (n : ℕ) (img : List ℕ) (held : TagRecord) (f : List ℕ) (bits : ℕ) (parity : Bool) (before : List ℕ) where
-  pub call-narrow : (r : Answer) → length before < 1024 → Refused 2 held r → Met (calledAt (Pages n) img (length before) held f bits parity) r img img before before
+module _ (n : ℕ) (img : List ℕ) (rec : TagRecord) (f : List ℕ) (bits : ℕ) (parity : Bool) (before : List ℕ) where
+  pub call-narrow : (r : Answer) → length before < 1024 → Refused 2 rec r → Met (calledAt (Pages n) img (length before) rec f bits parity) r img img before before
   unfolding calledAt
   call-narrow r l h = rw (lt-leb 1024 (length before) l) (h img before)
 
-  pub call-unframed : (r : Answer) (b : Bool) → 1024 ≤ length before → b ≡ isFrame f bits → b ≡ false → Refused 3 held r
-      → Met (calledAt (Pages n) img (length before) held f bits parity) r img img before before
+  pub call-unframed : (r : Answer) (b : Bool) → 1024 ≤ length before → b ≡ isFrame f bits → b ≡ false → Refused 3 rec r
+      → Met (calledAt (Pages n) img (length before) rec f bits parity) r img img before before
   unfolding calledAt
   call-unframed r b l e g h = rw (le-leb 1024 (length before) l, ← e, g) (h img before)
 
-  pub call-done : (b : Bool) (t : Tag) (step : Step) (left : TagRecord) (image′ after : List ℕ) → 1024 ≤ length before → b ≡ isFrame f bits → b ≡ true → t ≡ tagOf held
+  pub call-done : (b : Bool) (t : Tag) (step : Step) (left : TagRecord) (image′ after : List ℕ) → 1024 ≤ length before → b ≡ isFrame f bits → b ≡ true → t ≡ tagOf rec
       → Did (heard n img t f bits parity) step img image′ before after → left ≡ recordOf (step .tag) → length after ≡ length before
-      → Met (calledAt (Pages n) img (length before) held f bits parity) (record { refused = 0; bits = step .bits; left = left }) img image′ before after
+      → Met (calledAt (Pages n) img (length before) rec f bits parity) (record { refused = 0; bits = step .bits; left = left }) img image′ before after
   unfolding calledAt taken
   call-done b t step left image′ after l e g q d w k =
       let o = heard n img t f bits parity .reply in
@@ -173,12 +128,12 @@ module _ (n : ℕ) (img : List ℕ) (held : TagRecord) (f : List ℕ) (bits : �
 pub found-fits : (n : ℕ) (img : List ℕ) (s : Size) → s ≡ sizeOf (length img) → s ≡ Pages n → Fits n img
 found-fits n img s e h = image.fits n img (sym e ∙ h)
 
-module _ (img : List ℕ) (held : TagRecord) (f : List ℕ) (bits : ℕ) (parity : Bool) (before : List ℕ) (s : Size) (r : Answer) (e : s ≡ sizeOf (length img)) where
-  pub call-sized : (n : ℕ) (image′ after : List ℕ) → s ≡ Pages n → Met (calledAt (Pages n) img (length before) held f bits parity) r img image′ before after
-      → Met (called img (length before) held f bits parity) r img image′ before after
+module _ (img : List ℕ) (rec : TagRecord) (f : List ℕ) (bits : ℕ) (parity : Bool) (before : List ℕ) (s : Size) (r : Answer) (e : s ≡ sizeOf (length img)) where
+  pub call-sized : (n : ℕ) (image′ after : List ℕ) → s ≡ Pages n → Met (calledAt (Pages n) img (length before) rec f bits parity) r img image′ before after
+      → Met (called img (length before) rec f bits parity) r img image′ before after
   unfolding called
   call-sized n image′ after g h = rw (← e, g) h
 
-  pub call-unsized : s ≡ Unknown → Refused 1 held r → Met (called img (length before) held f bits parity) r img img before before
+  pub call-unsized : s ≡ Unknown → Refused 1 rec r → Met (called img (length before) rec f bits parity) r img img before before
   unfolding called calledAt
   call-unsized g h = rw (← e, g) (h img before)

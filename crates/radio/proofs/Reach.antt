@@ -7,20 +7,21 @@ use lib.ListN.{length}
 use borrow.Author.Tests.{le-leb, eq-eqb}
 use Rattle.crc_a.specs.CrcA.{sent as bytesSent, withCrc}
 use Rattle.crc_a.proofs.Laws.{with-crc-right}
-use Rattle.image.specs.declared.Size.the-variants.{Pages}
+use Rattle.image.specs.declared.layout.Size.the-variants.{Pages}
 use Rattle.image.specs.Layout.{sizeOf}
 use Rattle.image.specs.Uid.{uid, cascadeTag, bcc0, bcc1}
-use Rattle.tag.specs.declared.Wait.the-variants.{ToIdle}
-use Rattle.tag.specs.declared.State.the-variants.{Ready1, Ready2, Active}
-use Rattle.tag.specs.declared.Tag.{Tag}
-use Rattle.tag.specs.State.{fieldOff, moved, woken, selected}
-use Rattle.tag.specs.Outcome.{bytes, plain, keep, does}
+use Rattle.tag.specs.declared.state.Wait.the-variants.{ToIdle}
+use Rattle.tag.specs.declared.state.State.the-variants.{Ready1, Ready2, Active}
+use Rattle.tag.specs.declared.state.Tag.{Tag}
+use Rattle.tag.specs.State.{fieldOff, moved, selected}
+use Rattle.tag.specs.Outcome.{plain, keep, does, says}
 use Rattle.selection.specs.Selection.{isReqa, isWupa, wakes, inIdle, forty, own1, own2, sent, select, inReady, inReady1, inReady2}
-use Rattle.radio.specs.Record.{recordOf, fieldLoss}
-use Rattle.radio.specs.Call.{Called, heardIn, heard, padded, isFrame, taken, calledAt, called}
+use Rattle.tag.specs.Record.{recordOf, fieldLoss}
+use Rattle.radio.specs.Heard.{heard}
+use Rattle.radio.specs.Call.{Called, padded, isFrame, taken, calledAt, called}
 use Rattle.radio.specs.Reach.{wupa, select1, select2, first, second, third, Reaches}
-use Rattle.radio.specs.declared.TagRecord.{TagRecord}
-use Rattle.radio.proofs.Once.{read-again}
+use Rattle.tag.specs.declared.record.TagRecord.{TagRecord}
+use Rattle.tag.proofs.Recorded.{read-again}
 
 -- a right SELECT frame, at either level
 module _ (code a b c d e : ℕ) where
@@ -31,7 +32,7 @@ module _ (code a b c d e : ℕ) where
   unfolding five isFrame padded withCrc bytesSent
   select-framed = refl
 
-  select-heard : (t : Tag) (sak : ℕ) → inReady t five 72 true code (forty a b c d e) sak ≡ does (bytes (sak ∷ [])) keep (moved t (selected (t .state)))
+  select-heard : (t : Tag) (sak : ℕ) → inReady t five 72 true code (forty a b c d e) sak ≡ says (sak ∷ []) keep (moved t (selected (t .state)))
   unfolding five inReady select sent withCrc
   select-heard t sak =
       rw (eq-eqb code code refl, eq-eqb (forty a b c d e) (forty a b c d e) refl, with-crc-right (code ∷ 0x70 ∷ a ∷ b ∷ c ∷ d ∷ e ∷ []))
@@ -52,25 +53,25 @@ module _ (n room : ℕ) (img : List ℕ) (r : TagRecord) (size : sizeOf (length 
   heard-call t f bits parity e = rw (size, le-leb 1024 room enough, e, read-again t)
 
   woken-up : first img room r ≡ taken (does (plain 16 0x0044) keep ready1)
-  unfolding first fieldLoss fieldOff wupa heard heardIn inIdle isReqa isWupa wakes moved woken isFrame padded ready1
+  unfolding first fieldLoss fieldOff wupa heard inIdle isReqa isWupa wakes moved isFrame padded ready1
   woken-up = heard-call fieldOff wupa 7 true refl
 
-  selected-once : second img room r ≡ taken (does (bytes (0x04 ∷ [])) keep ready2)
-  unfolding second taken ready1 ready2 select1 five heard heardIn inReady1 own1 moved selected
+  selected-once : second img room r ≡ taken (says (0x04 ∷ []) keep ready2)
+  unfolding second taken ready1 ready2 select1 five heard inReady1 own1 moved
   selected-once =
       ap (λ (c : Called). called img room (c .left) (select1 img) 72 true) woken-up
       ∙ heard-call ready1 (select1 img) 72 true (select-framed 0x93 cascadeTag (uid img 0) (uid img 1) (uid img 2) (bcc0 img))
       ∙ ap taken (select-heard 0x93 cascadeTag (uid img 0) (uid img 1) (uid img 2) (bcc0 img) ready1 0x04)
 
-  selected-twice : third img room r ≡ taken (does (bytes (0x00 ∷ [])) keep active)
-  unfolding third taken ready2 active select2 five heard heardIn inReady2 own2 moved selected
+  selected-twice : third img room r ≡ taken (says (0x00 ∷ []) keep active)
+  unfolding third taken ready2 active select2 five heard inReady2 own2 moved says
   selected-twice =
       ap (λ (c : Called). called img room (c .left) (select2 img) 72 true) selected-once
       ∙ heard-call ready2 (select2 img) 72 true (select-framed 0x95 (uid img 3) (uid img 4) (uid img 5) (uid img 6) (bcc1 img))
       ∙ ap taken (select-heard 0x95 (uid img 3) (uid img 4) (uid img 5) (uid img 6) (bcc1 img) ready2 0x00)
 
   pub reaches : Reaches img room r
-  unfolding taken active
+  unfolding taken active says
   reaches = record {
     first-keeps = ap (λ (c : Called). c .effect) woken-up;
     second-keeps = ap (λ (c : Called). c .effect) selected-once;

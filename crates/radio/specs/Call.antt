@@ -1,36 +1,18 @@
--- The frame call: its refusals, and what a frame does by the tag's state. Assumes nothing.
+-- The frame call: its refusals, and what comes out of it. Assumes nothing.
 use mathlib.Core.Path.{_≡_}
 use mathlib.Core.List.{List}
 use mathlib.Core.Bool.{Bool, cond, _&&_, _||_}
 use Prim.Native.Nat.{ℕ, _+_, _*_, _/_, _%_, _^_, _≤_}
 use lib.Dec.{eqb, leb, ltb}
 use lib.ListN.{length}
-use Rattle.image.specs.declared.Size.{Size}
-use Rattle.image.specs.declared.Size.the-variants.{Pages, Unknown}
+use Rattle.image.specs.declared.layout.Size.{Size}
+use Rattle.image.specs.declared.layout.Size.the-variants.{Pages, Unknown}
 use Rattle.image.specs.Layout.{sizeOf}
-use Rattle.tag.specs.declared.State.{State}
-use Rattle.tag.specs.declared.State.the-variants.{Idle, Halt, Ready1, Ready2, Active}
-use Rattle.tag.specs.declared.Tag.{Tag}
 use Rattle.tag.specs.Outcome.{arg, Reply, silence, bitsOf, answerOf, over, Effect, keep, apply, Does}
-use Rattle.selection.specs.Selection.{inIdle, inHalt, inReady1, inReady2}
-use Rattle.active.specs.Frame.{inActive}
-use Rattle.radio.specs.Record.{tagOf, recordOf}
-use Rattle.radio.specs.declared.TagRecord.{TagRecord}
-use Rattle.radio.specs.declared.Answer.{Answer}
-
--- ---- what a frame does
-
-unfoldable pub heardIn : State → ℕ → List ℕ → Tag → List ℕ → ℕ → Bool → Does
-heardIn Idle n img t f bits parity = inIdle t f bits
-heardIn Halt n img t f bits parity = inHalt t f bits
-heardIn (Ready1 w) n img t f bits parity = inReady1 img t f bits parity
-heardIn (Ready2 w) n img t f bits parity = inReady2 img t f bits parity
-heardIn (Active w a) n img t f bits parity = inActive n img t f bits parity
-
-unfoldable pub heard : ℕ → List ℕ → Tag → List ℕ → ℕ → Bool → Does
-heard n img t f bits parity = heardIn (t .state) n img t f bits parity
-
--- ---- refusals
+use Rattle.tag.specs.Record.{tagOf, recordOf}
+use Rattle.tag.specs.declared.record.TagRecord.{TagRecord}
+use Rattle.radio.specs.Heard.{heard}
+use Rattle.radio.specs.declared.call.Answer.{Answer}
 
 -- "or a set bit above the last": the bits of the last byte above the count are zeros
 unfoldable pub padded : List ℕ → ℕ → Bool
@@ -73,3 +55,8 @@ pub record Met (o : Called) (r : Answer) (img image′ before after : List ℕ) 
   pub image : image′ ≡ apply img (o .effect)
   pub answer : after ≡ over (answerOf (o .reply)) before
   pub fits : r .bits ≤ 8 * length before
+
+-- "Show that two outcomes allowed for one input are equal"
+abbrev pub OneOutcome : Type 0
+OneOutcome = (o : Called) (r r′ : Answer) (img image image′ before after after′ : List ℕ) → Met o r img image before after → Met o r′ img image′ before after′
+    → (r ≡ r′) × (image ≡ image′) × (after ≡ after′)

@@ -1,3 +1,3 @@
-pub mod Record
+pub mod Heard
 pub mod Call
 pub mod Reach

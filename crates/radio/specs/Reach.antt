@@ -5,12 +5,12 @@ use mathlib.Core.Bool.{true, false}
 use Prim.Native.Nat.{ℕ}
 use Rattle.crc_a.specs.CrcA.{withCrc}
 use Rattle.image.specs.Uid.{uid, cascadeTag, bcc0, bcc1}
-use Rattle.tag.specs.declared.Wait.the-variants.{ToIdle}
-use Rattle.tag.specs.declared.State.the-variants.{Active}
+use Rattle.tag.specs.declared.state.Wait.the-variants.{ToIdle}
+use Rattle.tag.specs.declared.state.State.the-variants.{Active}
 use Rattle.tag.specs.Outcome.{keep}
-use Rattle.radio.specs.Record.{recordOf, fieldLoss}
+use Rattle.tag.specs.Record.{recordOf, fieldLoss}
 use Rattle.radio.specs.Call.{Called, called}
-use Rattle.radio.specs.declared.TagRecord.{TagRecord}
+use Rattle.tag.specs.declared.record.TagRecord.{TagRecord}
 
 unfoldable pub wupa : List ℕ
 wupa = 0x52 ∷ []

@@ -11,14 +11,15 @@ use lib.ListN.{length, take, getD, List·getD-eq-default}
 use lib.Seq.{take-all}
 use lib.Pow.{pow-pos, pow-add, pow-lt}
 use borrow.Author.Tests.{ne-eqb, eq-eqb, leb-true, le-leb, lt-leb}
-use Rattle.crc_a.specs.CrcA.{crcRight, withCrc}
+use Rattle.basics.proofs.Choice.{and-left, and-right}
+use Rattle.crc_a.specs.CrcA.{crcRight}
 use Rattle.image.specs.Uid.{uid, cascadeTag, bcc0, bcc1}
-use Rattle.tag.specs.declared.State.{State}
-use Rattle.tag.specs.declared.Tag.{Tag}
-use Rattle.tag.specs.declared.Step.{Step}
+use Rattle.tag.specs.declared.state.State.{State}
+use Rattle.tag.specs.declared.state.Tag.{Tag}
+use Rattle.tag.specs.declared.outcome.Step.{Step}
 use Rattle.tag.specs.State.{moved, woken, selected}
-use Rattle.tag.specs.Outcome.{plain, keep, over, apply, Does, does, Did, lost}
-use Rattle.tag.proofs.Laws.{Silent, answered}
+use Rattle.tag.specs.Outcome.{plain, keep, over, apply, Does, does, Did, lost, Says}
+use Rattle.tag.proofs.Laws.{Silent, said}
 use Rattle.selection.specs.Selection.{isReqa, isWupa, wakes, inIdle, inHalt, forty, own1, own2, sent, asks, known, anticollision, select, inReady, inReady1, inReady2}
 
 pub arg-past : (f : List ℕ) (i : ℕ) → length f ≤ i → 0 ≡ getD f i 0
@@ -96,14 +97,6 @@ pub asks-above : (x : ℕ) → 0x20 ≤ x → 0x68 ≤ x → false ≡ asks x
 unfolding asks
 asks-above x l m = simp (le-leb 0x20 x l, lt-leb x 0x67 (omega arith))
 
-pub and-left : (a b : Bool) → (a && b) ≡ true → a ≡ true
-and-left true b e = refl
-and-left false b e = e
-
-pub and-right : (a b : Bool) → (a && b) ≡ true → b ≡ true
-and-right true b e = e
-and-right false b e = absurd (let z : _≡_ {A = ℕ} 0 1 = cc in omega arith)
-
 pub asks-true : (x : ℕ) → asks x ≡ true → (0x20 ≤ x) × (x ≤ 0x67) × (x % 16 ≤ 7)
 unfolding asks
 asks-true x e =
@@ -160,15 +153,12 @@ module _ (t : Tag) (f : List ℕ) (bits own sak : ℕ) (r : Step) where
   unfolding select
   select-crc s k l b q e c d h before img = rw (b, ← q, eq-eqb s own e, ← all-nine f bits k l b c, d) (h img before)
 
-pub select-done : (t t′ : Tag) (f : List ℕ) (bits own sak : ℕ) (s count : ℕ) (k : Bool) (state : State) (before mid after : List ℕ)
+pub select-done : (t t′ : Tag) (f : List ℕ) (bits own sak : ℕ) (s : ℕ) (k : Bool) (state : State) (r : Step) (before mid after : List ℕ)
     → length f ≡ (bits + 7) / 8 → bits ≡ 72 → s ≡ sent f → s ≡ own → k ≡ crcRight (take 9 f) → k ≡ true
-    → mid ≡ over (sak ∷ []) before → (count ≡ 8 * (1 + 2)) × (after ≡ over (withCrc (take 1 mid)) mid)
-    → state ≡ selected (t .state) → t′ ≡ moved t state → DidAny (select t f bits own sak) (record { bits = count; tag = t′ }) before after
+    → mid ≡ over (sak ∷ []) before → state ≡ selected (t .state) → t′ ≡ moved t state → Says 1 t′ r mid after → DidAny (select t f bits own sak) r before after
 unfolding select apply
-select-done t t′ f bits own sak s count k state before mid after l b q e c d em m g h img =
-    let a = answered (sak ∷ []) before mid after 1 count refl em m in
-    rw (b, ← q, eq-eqb s own e, ← all-nine f bits k l b c, d)
-    (record { image = refl; bits = a .0; tag = h ∙ ap (moved t) g; answer = a .1 })
+select-done t t′ f bits own sak s k state r before mid after l b q e c d em g h m img =
+    rw (b, ← q, eq-eqb s own e, ← all-nine f bits k l b c, d, ← g, ← h) (said (sak ∷ []) keep t′ r 1 img img before mid after refl em m refl)
 
 -- ---- READY1 and READY2
 

@@ -5,9 +5,9 @@ use Prim.Native.Nat.{ℕ, _+_, _-_, _*_, _/_, _%_, _^_}
 use lib.Dec.{eqb, leb}
 use Rattle.crc_a.specs.CrcA.{crcRight}
 use Rattle.image.specs.Uid.{uid, cascadeTag, bcc0, bcc1}
-use Rattle.tag.specs.declared.Tag.{Tag}
+use Rattle.tag.specs.declared.state.Tag.{Tag}
 use Rattle.tag.specs.State.{moved, woken, selected}
-use Rattle.tag.specs.Outcome.{arg, silence, bytes, plain, keep, Does, does, lost}
+use Rattle.tag.specs.Outcome.{arg, silence, plain, keep, Does, does, lost, says}
 
 -- ---- IDLE and HALT
 
@@ -65,7 +65,7 @@ anticollision t f bits own =
 -- "Second byte 70h: five right bytes and CRC answer 04h (to READY2) or 00h (to ACTIVE), each with CRC."
 unfoldable pub select : Tag → List ℕ → ℕ → ℕ → ℕ → Does
 select t f bits own sak =
-    cond (eqb bits 72 && (eqb (sent f) own && crcRight f)) (does (bytes (sak ∷ [])) keep (moved t (selected (t .state)))) (lost t)
+    cond (eqb bits 72 && (eqb (sent f) own && crcRight f)) (says (sak ∷ []) keep (moved t (selected (t .state)))) (lost t)
 
 -- "Anything else, bad parity and a non-match among them: silence, wait state."
 unfoldable pub inReady : Tag → List ℕ → ℕ → Bool → ℕ → ℕ → ℕ → Does

@@ -1,6 +1,12 @@
 // IDLE, HALT, READY1 and READY2: a tag is woken and selected.
-use tag::Step;
-use tag::Tag;
+use basics::to_u64;
+use tag::outcome::Step;
+use tag::outcome::lay;
+use tag::outcome::lost;
+use tag::outcome::plain;
+use tag::outcome::says;
+use tag::outcome::silent;
+use tag::state::Tag;
 ghost use mathlib.Core.Path.{_≡_};
 ghost use mathlib.Core.Bool.{true};
 ghost use mathlib.Core.List.{List};
@@ -22,7 +28,7 @@ fn wake(answer: &mut [u8], tag: Tag) -> Step
     ensures { λ r. ⌜ ((img : List ℕ) → Did (wakes tag) r img img (now (answer .entry)) (now (answer .exit))) ⌝ }
 {
     let state = tag.state;
-    tag::plain(answer, tag.moved(state.woken()), 16, 0x0044)
+    plain(answer, tag.moved(state.woken()), 16, 0x0044)
 }
 
 // A frame in IDLE.
@@ -34,10 +40,10 @@ pub fn idle(answer: &mut [u8], tag: Tag, frame: &[u8], bits: usize) -> Step
         let code = arg(frame, 0);
         match code {
             0x26 | 0x52 => wake(answer, tag),
-            _ => tag::silent(tag),
+            _ => silent(tag),
         }
     } else {
-        tag::silent(tag)
+        silent(tag)
     }
 }
 
@@ -51,24 +57,18 @@ pub fn halt(answer: &mut [u8], tag: Tag, frame: &[u8], bits: usize) -> Step
         if code == 0x52 {
             wake(answer, tag)
         } else {
-            tag::silent(tag)
+            silent(tag)
         }
     } else {
-        tag::silent(tag)
+        silent(tag)
     }
-}
-
-fn wide(b: u8) -> u64
-    ensures { λ r. ⌜ (r ≡ b) × (r < 256) ⌝ }
-{
-    b as u64
 }
 
 // Five bytes as one number, the first lowest.
 fn forty(a: u8, b: u8, c: u8, d: u8, e: u8) -> u64
     ensures { λ r. ⌜ (r ≡ forty a b c d e) × (r < 2 ^ 40) ⌝ }
 {
-    wide(a) + 256 * (wide(b) + 256 * (wide(c) + 256 * (wide(d) + 256 * wide(e))))
+    to_u64(a) + 256 * (to_u64(b) + 256 * (to_u64(c) + 256 * (to_u64(d) + 256 * to_u64(e))))
 }
 
 // The forty bits that READY1 goes by.
@@ -78,10 +78,10 @@ fn own1(image: &[u8]) -> u64
 {
     forty(
         0x88,
-        image::uid(image, 0),
-        image::uid(image, 1),
-        image::uid(image, 2),
-        image::bcc0(image),
+        image::uid::uid(image, 0),
+        image::uid::uid(image, 1),
+        image::uid::uid(image, 2),
+        image::uid::bcc0(image),
     )
 }
 
@@ -91,11 +91,11 @@ fn own2(image: &[u8]) -> u64
     ensures { λ r. ⌜ (r ≡ own2 (now (image .entry))) × (r < 2 ^ 40) ⌝ }
 {
     forty(
-        image::uid(image, 3),
-        image::uid(image, 4),
-        image::uid(image, 5),
-        image::uid(image, 6),
-        image::bcc1(image),
+        image::uid::uid(image, 3),
+        image::uid::uid(image, 4),
+        image::uid::uid(image, 5),
+        image::uid::uid(image, 6),
+        image::uid::bcc1(image),
     )
 }
 
@@ -148,12 +148,12 @@ fn anticollision(answer: &mut [u8], tag: Tag, frame: &[u8], bits: usize, n: usiz
 {
     if bits == 16 + n {
         if sent(frame) == own % power(n) {
-            tag::plain(answer, tag, 40 - n, own >> n)
+            plain(answer, tag, 40 - n, own >> n)
         } else {
-            tag::lost(tag)
+            lost(tag)
         }
     } else {
-        tag::lost(tag)
+        lost(tag)
     }
 }
 
@@ -162,23 +162,19 @@ fn select(answer: &mut [u8], tag: Tag, frame: &[u8], bits: usize, own: u64, sak:
     ensures { λ r. ⌜ ((img : List ℕ) → Did (select tag (now (frame .entry)) bits own sak) r img img (now (answer .entry)) (now (answer .exit))) ⌝ }
 {
     if bits != 72 {
-        return tag::lost(tag);
+        return lost(tag);
     }
     if sent(frame) != own {
-        return tag::lost(tag);
+        return lost(tag);
     }
     // All nine bytes, as a part whose length is written here: the compiler then unrolls the CRC_A.
     if crc_a::is_right(&frame[0..9]) {
         let one = [sak];
-        tag::lay(answer, &one);
-        let bits = tag::finish(answer, 1);
+        lay(answer, &one);
         let state = tag.state;
-        Step {
-            bits,
-            tag: tag.moved(state.selected()),
-        }
+        says(answer, 1, tag.moved(state.selected()))
     } else {
-        tag::lost(tag)
+        lost(tag)
     }
 }
 
@@ -197,7 +193,7 @@ fn ready(
 {
     if parity {
         if arg(frame, 0) != code {
-            return tag::lost(tag);
+            return lost(tag);
         }
         let x = arg(frame, 1);
         if x == 0x70 {
@@ -206,10 +202,10 @@ fn ready(
         if asks(x) {
             anticollision(answer, tag, frame, bits, known(x), own)
         } else {
-            tag::lost(tag)
+            lost(tag)
         }
     } else {
-        tag::lost(tag)
+        lost(tag)
     }
 }
 

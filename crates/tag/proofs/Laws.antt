@@ -5,18 +5,15 @@ use Prim.Native.Nat.{ℕ, zero, suc, _+_, _*_, _/_, _%_, _^_, _≤_, _<_}
 use native.Mathlib.Nat.{not-suc-le-zero, le-of-suc-le-suc, pow-suc, div-div-eq-div-mul, mod-eq-of-lt}
 use native.Mathlib.Numerals.{add-one}
 use native.Mathlib.Omega.{arith}
-use lib.ListN.{length, take, drop, set, getD, length-append}
+use lib.ListN.{length, take, drop, set, length-append}
 use lib.Seq.{take-length, sets, sets-eq, set-split, take-at, drop-drop, drop-append-add, length-take-le}
+use Rattle.image.proofs.Stored.{length-store}
 use Rattle.crc_a.specs.CrcA.{crcA, sent, withCrc}
 use Rattle.tag.specs.State.{moved, backToWait}
-use Rattle.tag.specs.Outcome.{build, byteOf, lowBytes, Reply, plain, silence, nibble, bytes, bitsOf, answerOf, over, keep, apply, does, Did, lost, nak}
-use Rattle.tag.specs.declared.State.{State}
-use Rattle.tag.specs.declared.Tag.{Tag}
-use Rattle.tag.specs.declared.Step.{Step}
-
--- what a function by cases gives, where the case is known
-pub by-case : {A B : Type 0} (f : A → B) (s s′ : A) (r : B) → s ≡ s′ → r ≡ f s′ → r ≡ f s
-by-case f s s′ r e h = rw e h
+use Rattle.tag.specs.Outcome.{build, byteOf, lowBytes, Reply, plain, silence, nibble, bytes, bitsOf, answerOf, over, Effect, keep, put, apply, does, Did, lost, ack, nakAfter, nak, says, Acks, Says}
+use Rattle.tag.specs.declared.state.State.{State}
+use Rattle.tag.specs.declared.state.Tag.{Tag}
+use Rattle.tag.specs.declared.outcome.Step.{Step}
 
 -- ---- laid over
 
@@ -32,23 +29,10 @@ over-over a b c =
     rw (length-append a c) (drop-append-add a (drop (length a) b) (length c) ∙ drop-drop (length c) (length a) b)
     )
 
--- ---- a loop that lays bytes over a buffer: the first i of them stand there
-
-lay-suc : (bs d : List ℕ) (i : ℕ) → i < length bs → i < length d → set (take i bs ++ drop i d) i (getD bs i 0) ≡ take (suc i) bs ++ drop (suc i) d
-lay-suc [] d i l m = absurd (not-suc-le-zero l)
-lay-suc (x ∷ bs) [] i l m = absurd (not-suc-le-zero m)
-lay-suc (x ∷ bs) (y ∷ d) zero l m = refl
-lay-suc (x ∷ bs) (y ∷ d) (suc i) l m = ap (λ (t : List ℕ). x ∷ t) (lay-suc bs d i (le-of-suc-le-suc l) (le-of-suc-le-suc m))
-
-pub lay-turn : (bs d answer : List ℕ) (i : ℕ) → i < length bs → length bs ≤ length d → answer ≡ take i bs ++ drop i d
-    → set answer i (getD bs i 0) ≡ take (i + 1) bs ++ drop (i + 1) d
-lay-turn bs d answer i l m e = rw (e, add-one) (lay-suc bs d i l (omega arith))
-
-pub lay-end : (bs d answer : List ℕ) (i : ℕ) → i ≤ length bs → length bs ≤ i → answer ≡ take i bs ++ drop i d → answer ≡ over bs d
+-- all of bs was copied to the buffer's start
+pub lay-done : (bs d answer : List ℕ) → answer ≡ take (length bs) bs ++ drop (length bs) d → answer ≡ over bs d
 unfolding over
-lay-end bs d answer i l m e =
-    let q : i ≡ length bs = omega arith in
-    e ∙ rw q (ap (λ (t : List ℕ). t ++ drop (length bs) d) (take-length bs))
+lay-done bs d answer e = rw (take-length bs) at e
 
 -- ---- a list that is built into the front of a buffer
 
@@ -78,6 +62,13 @@ byte-turn v rest i count answer d l m e f = rw (f, e, add-one) (laid-suc (byteOf
 pub byte-next : (v rest i : ℕ) → rest ≡ v / 256 ^ i → rest / 256 ≡ v / 256 ^ (i + 1)
 byte-next v rest i e = rw (e, add-one, pow-suc) (div-div-eq-div-mul v (256 ^ i) 256)
 
+-- ---- effects
+
+pub length-apply : (img : List ℕ) (e : Effect) → length (apply img e) ≡ length img
+unfolding apply
+length-apply img keep = refl
+length-apply img (put p v) = length-store img p v
+
 -- ---- silence and nibbles
 
 -- no answer, for every image and buffer
@@ -96,11 +87,21 @@ pub lost-done : (t t′ : Tag) (s : State) (r : Step) → s ≡ backToWait (t .s
 unfolding lost
 lost-done t t′ s r e f h img before = rw (← e, ← f) (h img before)
 
+pub ack-done : (t : Tag) (before : List ℕ) → 1 ≤ length before → Acks t (record { bits = 4; tag = t }) before (set before 0 0xA)
+unfolding ack bitsOf answerOf over
+ack-done t before l img e = record { image = refl; bits = refl; tag = refl; answer = set-split before 0 0xA l }
+
 pub nak-done : (t t′ : Tag) (s : State) (v : ℕ) (before : List ℕ) → s ≡ backToWait (t .state) → t′ ≡ moved t s → (1 ≤ length before) × (v < 16)
     → Naks t v (record { bits = 4; tag = t′ }) before (set before 0 v)
-unfolding nak apply bitsOf answerOf over
+unfolding nakAfter apply bitsOf answerOf over
 nak-done t t′ s v before e f l img =
     record { image = refl; bits = refl; tag = f ∙ rw e; answer = (let q : v % 16 ≡ v = omega arith in rw q (set-split before 0 v (l .0))) }
+
+-- a NAK after an effect on the image
+pub nak-after : (e : Effect) (t : Tag) (v : ℕ) (r : Step) (img image′ before after : List ℕ) → Naks t v r before after → image′ ≡ apply img e
+    → Did (nakAfter e t v) r img image′ before after
+unfolding nakAfter
+nak-after e t v r img image′ before after h i = let d = h img in record { image = i; bits = d .bits; tag = d .tag; answer = d .answer }
 
 -- ---- bits of a number
 
@@ -133,9 +134,17 @@ crc-behind buffer after n l e =
     length-append (take n buffer) (c % 256 ∷ c / 256 ∷ []) ∙ ap (λ (k : ℕ). k + 2) (length-take-le n buffer (omega arith)) in
     rw whole (e ∙ sets-eq (c % 256 ∷ c / 256 ∷ []) buffer n (l .0))
 
--- bytes were laid over the buffer, and the CRC_A behind them
-pub answered : (bs before mid after : List ℕ) (n bits : ℕ) → length bs ≡ n → mid ≡ over bs before
-    → (bits ≡ 8 * (n + 2)) × (after ≡ over (withCrc (take n mid)) mid) → (bits ≡ bitsOf (bytes bs)) × (after ≡ over (answerOf (bytes bs)) before)
-unfolding bitsOf answerOf withCrc
-answered bs before mid after n bits l em e =
-    (rw l (e .0), e .1 ∙ rw (em, take-over bs before n l) (over-over bs before (sent (crcA bs))))
+pub says-done : (t : Tag) (buffer after : List ℕ) (n : ℕ) → (n + 2 ≤ length buffer) × (n ≤ 1022) → after ≡ sets buffer n (sent (crcA (take n buffer)))
+    → Says n t (record { bits = 8 * (n + 2); tag = t }) buffer after
+says-done t buffer after n l e = record { bits = refl; tag = refl; answer = crc-behind buffer after n l e }
+
+-- data: bytes were laid over the buffer, their CRC_A was stored behind them, and the image is what the effect makes of it
+pub said : (bs : List ℕ) (e : Effect) (t : Tag) (r : Step) (n : ℕ) (img image′ before mid after : List ℕ) → length bs ≡ n → mid ≡ over bs before
+    → Says n t r mid after → image′ ≡ apply img e → Did (says bs e t) r img image′ before after
+unfolding says bitsOf answerOf withCrc
+said bs e t r n img image′ before mid after l em s ei = record {
+  image = ei;
+  bits = s .bits ∙ rw l;
+  tag = s .tag;
+  answer = s .answer ∙ rw (em, take-over bs before n l) (over-over bs before (sent (crcA bs)));
+}

@@ -2,12 +2,12 @@
 use mathlib.Core.Path.{_≡_}
 use mathlib.Core.List.{List, [], _∷_, _++_}
 use Prim.Native.Nat.{ℕ, zero, suc, _+_, _*_, _/_, _%_, _^_, _≤_}
-use lib.ListN.{length, drop, getD}
+use lib.ListN.{length, take, drop, getD}
 use Rattle.crc_a.specs.CrcA.{withCrc}
-use Rattle.image.specs.declared.Four.{Four}
+use Rattle.image.specs.declared.layout.Four.{Four}
 use Rattle.image.specs.Layout.{Fits, store}
-use Rattle.tag.specs.declared.Tag.{Tag}
-use Rattle.tag.specs.declared.Step.{Step}
+use Rattle.tag.specs.declared.state.Tag.{Tag}
+use Rattle.tag.specs.declared.outcome.Step.{Step}
 use Rattle.tag.specs.State.{moved, backToWait}
 
 -- byte i of a frame, zero behind its end
@@ -72,9 +72,20 @@ does r e t = record { reply = r; effect = e; tag = t }
 unfoldable pub lost : Tag → Does
 lost t = does silence keep (moved t (backToWait (t .state)))
 
+-- "ACK (Ah)"
+unfoldable pub ack : Effect → Tag → Does
+ack e t = does (nibble 0xA) e t
+
 -- "Every NAK goes to the wait state."
-unfoldable pub nak : Tag → ℕ → Does
-nak t v = does (nibble v) keep (moved t (backToWait (t .state)))
+unfoldable pub nakAfter : Effect → Tag → ℕ → Does
+nakAfter e t v = does (nibble v) e (moved t (backToWait (t .state)))
+
+abbrev pub nak : Tag → ℕ → Does
+nak t v = nakAfter keep t v
+
+-- data: "after all data answers in ACTIVE" comes their CRC_A
+unfoldable pub says : List ℕ → Effect → Tag → Does
+says bs e t = does (bytes bs) e t
 
 -- A call did this: img is the image before it and image′ after it, before and after are the answer buffer's bytes.
 pub record Did (o : Does) (r : Step) (img image′ before after : List ℕ) : Type 0 where
@@ -87,3 +98,14 @@ pub record Did (o : Does) (r : Step) (img image′ before after : List ℕ) : Ty
 pub record Room (n : ℕ) (img answer : List ℕ) : Type 0 where
   pub fit : Fits n img
   pub room : 1024 ≤ length answer
+
+-- ---- what the builders of answers promise, whatever was done to the image
+
+abbrev pub Acks : Tag → Step → List ℕ → List ℕ → Type 0
+Acks t r before after = (img : List ℕ) (e : Effect) → Did (ack e t) r img (apply img e) before after
+
+-- the CRC_A stands behind the n bytes that stood at the answer's start
+pub record Says (n : ℕ) (t : Tag) (r : Step) (before after : List ℕ) : Type 0 where
+  pub bits : r .bits ≡ 8 * (n + 2)
+  pub tag : r .tag ≡ t
+  pub answer : after ≡ over (withCrc (take n before)) before

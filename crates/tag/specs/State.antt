@@ -1,32 +1,35 @@
 -- The radio state of a tag, after document 01's "Radio states": "IDLE, HALT, READY1, READY2, ACTIVE." Assumes nothing.
 use mathlib.Core.Bool.{Bool, true, false}
-use Rattle.tag.specs.declared.Wait.{Wait}
-use Rattle.tag.specs.declared.Wait.the-variants.{ToIdle, ToHalt}
-use Rattle.tag.specs.declared.State.{State}
-use Rattle.tag.specs.declared.State.the-variants.{Idle, Halt, Ready1, Ready2, Active}
-use Rattle.tag.specs.declared.Tag.{Tag}
+use Rattle.tag.specs.declared.state.Wait.{Wait}
+use Rattle.tag.specs.declared.state.Wait.the-variants.{ToIdle, ToHalt}
+use Rattle.tag.specs.declared.state.State.{State}
+use Rattle.tag.specs.declared.state.State.the-variants.{Idle, Halt, Ready1, Ready2, Active}
+use Rattle.tag.specs.declared.state.Tag.{Tag}
 
 -- "Field loss gives IDLE, not authenticated, no read answered in this field; \"field off\" is that record."
 unfoldable pub fieldOff : Tag
 fieldOff = record { state = Idle; answered = false }
+
+abbrev pub fieldLost : Tag → Tag
+fieldLost t = fieldOff
 
 -- the same tag in another state
 unfoldable pub moved : Tag → State → Tag
 moved t s = record { state = s; answered = t .answered }
 
 -- "The wait state is HALT if the tag was woken from HALT, else IDLE."
-unfoldable pub woken : State → State
+abbrev pub woken : State → State
 woken Idle = Ready1 ToIdle
 woken Halt = Ready1 ToHalt
 woken (Ready1 w) = Ready1 w
 woken (Ready2 w) = Ready2 w
 woken (Active w a) = Active w a
 
-unfoldable pub waitState : Wait → State
+abbrev pub waitState : Wait → State
 waitState ToIdle = Idle
 waitState ToHalt = Halt
 
-unfoldable pub backToWait : State → State
+abbrev pub backToWait : State → State
 backToWait Idle = Idle
 backToWait Halt = Halt
 backToWait (Ready1 w) = waitState w
@@ -34,7 +37,7 @@ backToWait (Ready2 w) = waitState w
 backToWait (Active w a) = waitState w
 
 -- "04h (to READY2) or 00h (to ACTIVE)"; "ACTIVE is entered unauthenticated."
-unfoldable pub selected : State → State
+abbrev pub selected : State → State
 selected Idle = Idle
 selected Halt = Halt
 selected (Ready1 w) = Ready2 w
@@ -46,7 +49,7 @@ unfoldable pub halted : State → State
 halted s = Halt
 
 -- a right password: "authenticated"
-unfoldable pub granted : State → State
+abbrev pub granted : State → State
 granted Idle = Idle
 granted Halt = Halt
 granted (Ready1 w) = Ready1 w
@@ -54,14 +57,14 @@ granted (Ready2 w) = Ready2 w
 granted (Active w a) = Active w true
 
 -- "Leaving ACTIVE ends authentication": no other state has one
-unfoldable pub authenticatedIn : State → Bool
+abbrev pub authenticatedIn : State → Bool
 authenticatedIn Idle = false
 authenticatedIn Halt = false
 authenticatedIn (Ready1 w) = false
 authenticatedIn (Ready2 w) = false
 authenticatedIn (Active w a) = a
 
-unfoldable pub authenticated : Tag → Bool
+abbrev pub authenticated : Tag → Bool
 authenticated t = authenticatedIn (t .state)
 
 -- a READ or FAST_READ was answered with data

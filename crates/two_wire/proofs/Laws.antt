@@ -1,36 +1,43 @@
 -- What each way through the functions shows. Assumes nothing.
 use mathlib.Core.Path.{_≡_, refl, sym, ap, _∙_}
 use mathlib.Core.List.{List}
-use mathlib.Core.Bool.{Bool, true, false, cond, _&&_}
-use Prim.Native.Nat.{ℕ, _+_, _*_, _/_, _%_, _^_, _≤_, _<_}
+use mathlib.Core.Bool.{Bool, true, false}
+use Prim.Native.Nat.{ℕ, _+_, _*_, _/_, _%_, _≤_, _<_}
 use native.Mathlib.Numerals.{add-one}
 use native.Mathlib.Omega.{arith}
-use lib.Dec.{eqb, leb, ltb}
+use lib.Dec.{leb, ltb}
 use lib.ListN.{length, getD, set, length-set}
-use borrow.Author.Tests.{ne-eqb, eq-eqb, eqb-true, lt-leb, le-leb, leb-true, leb-false, lt-ltb, le-ltb}
+use borrow.Author.Tests.{ne-eqb, eq-eqb, le-leb, lt-leb, leb-true, ltb-true, lt-ltb, le-ltb}
+use Rattle.basics.proofs.Choice.{and-left, and-right, by, by-case}
 use Rattle.image.specs.Layout.{Fits, sizeOf}
 use Rattle.image.specs.Shown.{shown}
-use Rattle.image.specs.declared.Size.{Size}
-use Rattle.image.specs.declared.Size.the-variants.{Pages, Unknown}
+use Rattle.image.specs.declared.layout.Size.{Size}
+use Rattle.image.specs.declared.layout.Size.the-variants.{Pages, Unknown}
 use Rattle.image.proofs.Laws.{fits}
-use Rattle.two_wire.specs.Window.{first, last, inWindow, offset, pageOf, placeAfter, readAt, following, byteAt}
-use Rattle.two_wire.specs.Record.{numberOf, phaseOf, idle, awaitsLow, oneMore}
-use Rattle.two_wire.specs.Answer.{answerOf, answered}
+use Rattle.two_wire.specs.Span.{offset, within, stores, following}
+use Rattle.two_wire.specs.Window.{first, window, pageOf, placeAfter, readAt, byteAt}
+use Rattle.two_wire.specs.Record.{numberOf, phaseOf, none, renewed, holding, oneMore, gathers}
+use Rattle.two_wire.specs.Answer.{answerOf}
 use Rattle.two_wire.specs.Gathered.{gathered, landedAt, landedTo, landed, counterAfter}
-use Rattle.two_wire.specs.Step.{noByte, device, addressed, sentIn, sent, readOn, readIn, read, keeping, after, started, rests, stoppedIn, stopped, refuses, byEvent, bySize, does, Did}
-use Rattle.two_wire.specs.declared.BusAnswer.{BusAnswer}
-use Rattle.two_wire.specs.declared.BusRecord.{BusRecord}
-use Rattle.two_wire.specs.declared.BusStep.{BusStep}
-use Rattle.two_wire.specs.declared.Phase.{Phase}
-use Rattle.two_wire.specs.declared.Phase.the-variants.{Rest, Device, High, Low, Writing, Reading, Deaf}
-use Rattle.two_wire.specs.declared.Reply.{Reply}
-use Rattle.two_wire.specs.declared.Reply.the-variants.{Refused, Nothing, Acknowledged, Declined, Byte}
+use Rattle.two_wire.specs.Event.{noByte, Does, answered, enters, started, device, addressed, sentIn, sent, stopped, readOn, read, byEvent, bySize, does, after, Did, Says}
+use Rattle.two_wire.specs.declared.answer.BusAnswer.{BusAnswer}
+use Rattle.two_wire.specs.declared.answer.Reply.{Reply}
+use Rattle.two_wire.specs.declared.answer.Reply.the-variants.{Refused, Nothing, Acknowledged, Declined, Byte}
+use Rattle.two_wire.specs.declared.record.BusRecord.{BusRecord}
+use Rattle.two_wire.specs.declared.record.Phase.{Phase}
+use Rattle.two_wire.specs.declared.record.Phase.the-variants.{Rest, Device, High, Low, Writing, Reading, Deaf}
+use Rattle.two_wire.specs.declared.span.Span.{Span}
+use Rattle.two_wire.specs.declared.event.BusStep.{BusStep}
 
--- ---- phases, records and answers
+-- ---- records and answers
+
+pub phase-unnamed : (k : ℕ) → (k ≡ 1 → ⊥) → (k ≡ 2 → ⊥) → (k ≡ 3 → ⊥) → (k ≡ 4 → ⊥) → (k ≡ 5 → ⊥) → (k ≡ 6 → ⊥) → Rest ≡ phaseOf k
+unfolding phaseOf
+phase-unnamed k a b c d e f = simp (ne-eqb _ _ a, ne-eqb _ _ b, ne-eqb _ _ c, ne-eqb _ _ d, ne-eqb _ _ e, ne-eqb _ _ f)
 
 -- reading the number that was written gives the phase again
-pub phase-number : (p : Phase) → phaseOf (numberOf p) ≡ p
-unfolding phaseOf numberOf
+pub phase-number : (p : Phase) → p ≡ phaseOf (numberOf p)
+unfolding phaseOf
 phase-number Rest = refl
 phase-number Device = refl
 phase-number High = refl
@@ -39,115 +46,82 @@ phase-number Writing = refl
 phase-number Reading = refl
 phase-number Deaf = refl
 
-pub number-by : (k : ℕ) (p q : Phase) → p ≡ q → k ≡ numberOf q → k ≡ numberOf p
-number-by k p q e h = rw e h
-
-pub unnamed : (k : ℕ) → (k ≡ 1 → ⊥) → (k ≡ 2 → ⊥) → (k ≡ 3 → ⊥) → (k ≡ 4 → ⊥) → (k ≡ 5 → ⊥) → (k ≡ 6 → ⊥) → Rest ≡ phaseOf k
-unfolding phaseOf
-unnamed k a b c d e f = simp (ne-eqb _ _ a, ne-eqb _ _ b, ne-eqb _ _ c, ne-eqb _ _ d, ne-eqb _ _ e, ne-eqb _ _ f)
+pub phase-named : (k : ℕ) (p : Phase) → k ≡ numberOf p → p ≡ phaseOf k
+phase-named k p e = by-case phaseOf k (numberOf p) p e (phase-number p)
 
 pub answer-by : (a : BusAnswer) (p q : Reply) → p ≡ q → a ≡ answerOf q → a ≡ answerOf p
-answer-by a p q e h = rw e h
+answer-by a p q e h = by-case answerOf p q a e h
 
-pub answer-given : (reply : Reply) (a : BusAnswer) (r : BusRecord) → a ≡ answerOf reply → _≡_ {A = BusStep} (record { answer = a; bus = r }) (answered reply r)
-unfolding answered
-answer-given reply a r e = rw e
+pub holds : (r : BusRecord) (p : Phase) (k held counter : ℕ) → k ≡ numberOf p → renewed r k held counter none ≡ holding r p held counter
+unfolding holding
+holds r p k held counter e = rw e
 
--- a reply with a record that is known
-pub replies : (reply : Reply) (s : BusStep) (r r′ : BusRecord) → s ≡ answered reply r → r ≡ r′ → s ≡ answered reply r′
-replies reply s r r′ e f = rw (← f) e
+pub gathers-one : (r : BusRecord) (b place count : ℕ) → place ≡ placeAfter (r .counter) (r .held) → count ≡ oneMore (r .held)
+    → renewed r (r .phase) count (r .counter) (set (r .bytes) place b) ≡ gathers r b
+unfolding gathers
+gathers-one r b place count e f = rw (e, f)
 
--- the record that awaits the low address byte, made from one with nothing gathered
-pub low-awaited : (r : BusRecord) (counter h : ℕ) → r ≡ idle Low counter
-    → _≡_ {A = BusRecord} (record { phase = r .phase; held = h; counter = r .counter; bytes = r .bytes }) (awaitsLow counter h)
-unfolding awaitsLow idle
-low-awaited r counter h e = ap (λ (x : BusRecord). record { phase = x .phase; held = h; counter = x .counter; bytes = x .bytes }) e
+-- ---- addresses
 
--- what holds of the phase that a number stands for, by the numbers
-phase-by : (P : Phase → Type 0) (k : ℕ) → (k ≡ 1 → P Device) → (k ≡ 2 → P High) → (k ≡ 3 → P Low) → (k ≡ 4 → P Writing) → (k ≡ 5 → P Reading)
-    → (k ≡ 6 → P Deaf) → P Rest → P (phaseOf k)
-unfolding phaseOf
-phase-by P k one two three four five six else =
-    pick 1 Device _ (eqb k 1) refl one
-    (pick 2 High _ (eqb k 2) refl two
-    (pick 3 Low _ (eqb k 3) refl three
-    (pick 4 Writing _ (eqb k 4) refl four
-    (pick 5 Reading _ (eqb k 5) refl five
-    (pick 6 Deaf Rest (eqb k 6) refl six else)))))
-  where
-    pick : (m : ℕ) (p q : Phase) (t : Bool) → eqb k m ≡ t → (k ≡ m → P p) → P q → P (cond t p q)
-    pick m p q true e here later = here (eqb-true k m e)
-    pick m p q false e here later = later
+pub span-inside : (s : Span) (a o : ℕ) → s .first ≤ a → o ≡ offset s a → ltb o (s .length) ≡ within s a
+unfolding within
+span-inside s a o l e = rw (le-leb (s .first) a l, e)
 
--- ---- the window
+pub span-below : (s : Span) (a : ℕ) → a < s .first → false ≡ within s a
+unfolding within
+span-below s a l = rw (lt-leb (s .first) a l)
 
--- below the window x wraps round to above it
-pub window-tested : (n a x : ℕ) → 45 ≤ n → n ≤ 231 → x < 2 ^ 16 → (x + first) % 2 ^ 16 ≡ a → ltb x (4 * n) ≡ inWindow n a
-unfolding inWindow
-window-tested n a x l m u e = by (leb first a) (leb a (last n)) refl refl
-  where
-    by : (s t : Bool) → leb first a ≡ s → leb a (last n) ≡ t → ltb x (4 * n) ≡ (s && t)
-    by true true p q = let f = leb-true first a p in let g = leb-true a (last n) q in lt-ltb x (4 * n) (omega arith)
-    by true false p q = let f = leb-true first a p in let g = leb-false a (last n) q in le-ltb x (4 * n) (omega arith)
-    by false t p q = let f = leb-false first a p in le-ltb x (4 * n) (omega arith)
+module _ (s : Span) (a : ℕ) (w : within s a ≡ true) where
+  pub first-at-most : s .first ≤ a
+  unfolding within
+  first-at-most = leb-true (s .first) a (and-left (leb (s .first) a) (ltb (offset s a) (s .length)) w)
 
-window-bounds : (n a : ℕ) → inWindow n a ≡ true → (first ≤ a) × (a ≤ last n)
-unfolding inWindow
-window-bounds n a h = pick (leb first a) (leb a (last n)) refl refl h
-  where
-    pick : (s t : Bool) → leb first a ≡ s → leb a (last n) ≡ t → (s && t) ≡ true → (first ≤ a) × (a ≤ last n)
-    pick true true p q h = (leb-true first a p, leb-true a (last n) q)
-    pick true false p q h = let z : _≡_ {A = ℕ} 0 1 = cc in absurd (omega arith)
-    pick false t p q h = let z : _≡_ {A = ℕ} 0 1 = cc in absurd (omega arith)
+  pub offset-below : offset s a < s .length
+  unfolding within
+  offset-below = ltb-true (offset s a) (s .length) (and-right (leb (s .first) a) (ltb (offset s a) (s .length)) w)
 
-module _ (n a : ℕ) (t : Bool) (e : t ≡ inWindow n a) (f : t ≡ true) where
-  pub window-first : first ≤ a
-  window-first = window-bounds n a (sym e ∙ f) .0
+pub follows-last : (s : Span) (a o : ℕ) → o ≡ offset s a → o + 1 ≡ s .length → s .first ≡ following s a
+unfolding following
+follows-last s a o e f = rw (eq-eqb (offset s a + 1) (s .length) (rw e at f))
 
-  pub window-last : a ≤ last n
-  window-last = window-bounds n a (sym e ∙ f) .1
+pub follows-other : (s : Span) (a o : ℕ) → o ≡ offset s a → (o + 1 ≡ s .length → ⊥) → a + 1 ≡ following s a
+unfolding following
+follows-other s a o e f = rw (ne-eqb (offset s a + 1) (s .length) (rw e at f))
 
-  pub window-within : (img : List ℕ) (o : ℕ) → Fits n img → o ≡ offset a → o < length img
-  window-within img o fit g =
-      let l = window-first in
-      let m = window-last in
-      let least = fit .least in
-      let whole = fit .whole in
-      omega arith
+module _ (n : ℕ) (w : Span) (e : w ≡ window n) where
+  pub window-holds : (a : ℕ) (v : Bool) → within (window n) a ≡ v → within w a ≡ v
+  window-holds a v h = rw e h
 
--- the byte wraps at 256, and 64 divides it
-pub place-rolled : (a k low x : ℕ) → low ≡ a % 256 → x ≡ (low + k) % 2 ^ 8 → x % 64 ≡ placeAfter a k
-unfolding placeAfter
-place-rolled a k low x e f = omega arith
+  pub window-held : (a : ℕ) (v : Bool) → within w a ≡ v → within (window n) a ≡ v
+  window-held a v h = rw e at h
 
--- ---- a byte sent
+  pub window-follows : (a k : ℕ) → k ≡ following w a → k ≡ following (window n) a
+  window-follows a k h = rw e at h
 
-pub device-write : (r : BusRecord) (b : ℕ) (s : BusStep) → b ≡ 0xA0 → s ≡ answered Acknowledged (idle High (r .counter)) → s ≡ device r b
-unfolding device
-device-write r b s e h = rw e h
+  pub window-ends : n ≤ 231 → w .first + w .length ≤ 0xFFFF
+  window-ends m = rw e (omega arith)
 
-pub device-read : (r : BusRecord) (b : ℕ) (s : BusStep) → b ≡ 0xA1 → s ≡ answered Acknowledged (idle Reading (r .counter)) → s ≡ device r b
-unfolding device
-device-read r b s e h = rw e h
+  pub window-fits : (img : List ℕ) → Fits n img → w .length ≤ length img
+  window-fits img f = let whole = f .whole in rw e (omega arith)
 
-pub device-other : (r : BusRecord) (b : ℕ) (s : BusStep) → (b ≡ 0xA0 → ⊥) → (b ≡ 0xA1 → ⊥) → s ≡ answered Declined (idle Deaf (r .counter)) → s ≡ device r b
-unfolding device
-device-other r b s d e h = rw (ne-eqb b 0xA0 d, ne-eqb b 0xA1 e) h
+  pub byte-shown : (a o b : ℕ) (img : List ℕ) → o ≡ offset w a → b ≡ shown n img (o / 4) (o % 4) → b ≡ byteAt n img a
+  unfolding byteAt
+  byte-shown a o b img f h = let g : o ≡ offset (window n) a = rw e at f in rw (← g) h
 
-pub address-in : (n a : ℕ) (r : BusRecord) (s : BusStep) (t : Bool) → t ≡ inWindow n a → t ≡ true → s ≡ answered Acknowledged (idle Writing a) → s ≡ addressed n r a
-unfolding addressed
-address-in n a r s t e f h = rw (← e, f) h
+-- ---- the counter of a read
 
-pub address-out : (n a : ℕ) (r : BusRecord) (s : BusStep) (t : Bool) → t ≡ inWindow n a → t ≡ false → s ≡ answered Declined (idle Deaf (r .counter)) → s ≡ addressed n r a
-unfolding addressed
-address-out n a r s t e f h = rw (← e, f) h
+module _ (n counter : ℕ) where
+  pub read-inside : within (window n) counter ≡ true → counter ≡ readAt n counter
+  unfolding readAt
+  read-inside h = rw h
 
-pub sent-by : (n b : ℕ) (r : BusRecord) (s : BusStep) (p q : Phase) → p ≡ phaseOf (r .phase) → p ≡ q → s ≡ sentIn q n r b → s ≡ sent n r b
-unfolding sent
-sent-by n b r s p q e f h = rw (← e, f) h
+  pub read-outside : within (window n) counter ≡ false → first ≡ readAt n counter
+  unfolding readAt
+  read-outside h = rw h
 
-pub sent-address : (n : ℕ) (r : BusRecord) (s : BusStep) (a a′ : ℕ) → s ≡ addressed n r a → a ≡ a′ → s ≡ addressed n r a′
-sent-address n r s a a′ e f = rw (← f) e
+pub first-within : (n : ℕ) → 45 ≤ n → within (window n) first ≡ true
+unfolding within
+first-within n l = lt-ltb 0 (4 * n) (omega arith)
 
 -- ---- the gathered bytes
 
@@ -159,154 +133,152 @@ pub more-many : (k : ℕ) → 64 ≤ k → 64 + (k % 64 + 1) % 64 ≡ oneMore k
 unfolding oneMore
 more-many k l = rw (le-ltb k 64 l) (omega arith)
 
+pub counter-kept : (r : BusRecord) → r .held ≡ 0 → r .counter ≡ counterAfter r
+unfolding counterAfter
+counter-kept r e = rw (eq-eqb (r .held) 0 e)
+
 pub counter-moved : (r : BusRecord) (page place wide : ℕ) → (r .held ≡ 0 → ⊥) → page ≡ pageOf (r .counter) → place ≡ placeAfter (r .counter) (r .held) → wide ≡ place
     → page + wide ≡ counterAfter r
 unfolding counterAfter
 counter-moved r page place wide ne e f g = rw (ne-eqb (r .held) 0 ne, e, g, f)
 
-pub counter-kept : (r : BusRecord) → r .held ≡ 0 → r .counter ≡ counterAfter r
-unfolding counterAfter
-counter-kept r e = rw (eq-eqb (r .held) 0 e)
+module _ (s : Span) (a b : ℕ) (buf : List ℕ) where
+  pub out-of-span : within s a ≡ false → buf ≡ landedAt s a b buf
+  unfolding landedAt stores
+  out-of-span h = rw h
 
-pub gathered-few : (r : BusRecord) → r .held < 64 → r .held ≡ gathered r
-unfolding gathered
-gathered-few r l = omega arith
+  module _ (o : ℕ) (h : within s a ≡ true) (e : o ≡ offset s a) where
+    pub is-kept : o < s .kept → buf ≡ landedAt s a b buf
+    unfolding landedAt stores
+    is-kept l = rw (h, ← e, lt-leb (s .kept) o l)
 
-pub gathered-all : (r : BusRecord) → 64 ≤ r .held → 64 ≡ gathered r
-unfolding gathered
-gathered-all r l = omega arith
+    pub is-stored : s .kept ≤ o → set buf o b ≡ landedAt s a b buf
+    unfolding landedAt stores
+    is-stored l = rw (h, ← e, le-leb (s .kept) o l)
 
-module _ (n a b : ℕ) (img : List ℕ) where
-  module _ (t : Bool) (e : t ≡ inWindow n a) where
-    pub out-of-window : t ≡ false → img ≡ landedAt n a b img
-    unfolding landedAt
-    out-of-window f = rw (← e, f)
+    pub store-fits : s .length ≤ length buf → o < length buf
+    store-fits l = omega (arith, offset-below s a h)
 
-    pub not-stored : (o : ℕ) → t ≡ true → o ≡ offset a → o < 10 → img ≡ landedAt n a b img
-    unfolding landedAt
-    not-stored o f g l = rw (← e, f, ← g, lt-leb 10 o l)
-
-    pub is-stored : (o : ℕ) → t ≡ true → o ≡ offset a → 10 ≤ o → set img o b ≡ landedAt n a b img
-    unfolding landedAt
-    is-stored o f g l = rw (← e, f, ← g, le-leb 10 o l)
-
-  pub length-landed-at : length (landedAt n a b img) ≡ length img
+  pub length-landed-at : length (landedAt s a b buf) ≡ length buf
   unfolding landedAt
-  length-landed-at = pick (inWindow n a) (leb 10 (offset a))
-    where
-      pick : (t u : Bool) → length (cond t (cond u (set img (offset a) b) img) img) ≡ length img
-      pick true true = length-set img (offset a) b
-      pick true false = refl
-      pick false u = refl
+  length-landed-at = by (λ (xs : List ℕ). length xs ≡ length buf) (stores s a) (λ _. length-set buf (offset s a) b) (λ _. refl)
 
-pub fits-landed-at : (n a b : ℕ) (img img′ : List ℕ) → Fits n img → img′ ≡ landedAt n a b img → Fits n img′
-fits-landed-at n a b img img′ f e =
-    record { size = f .size; least = f .least; most = f .most; whole = ap length e ∙ length-landed-at n a b img ∙ f .whole }
+pub length-lasts : (s : Span) (a b l : ℕ) (buf buf′ : List ℕ) → length buf ≡ l → buf′ ≡ landedAt s a b buf → length buf′ ≡ l
+length-lasts s a b l buf buf′ e f = ap length f ∙ length-landed-at s a b buf ∙ e
 
-pub landed-turn : (n k page place wide : ℕ) (r : BusRecord) (img₀ img img′ : List ℕ) → img ≡ landedTo n r k img₀ → page ≡ pageOf (r .counter)
-    → place ≡ placeAfter (r .counter) k → wide ≡ place → img′ ≡ landedAt n (page + wide) (getD (r .bytes) place 0) img → img′ ≡ landedTo n r (k + 1) img₀
+pub landed-turn : (s : Span) (k page place wide : ℕ) (r : BusRecord) (buf₀ buf buf′ : List ℕ) → buf ≡ landedTo s r k buf₀ → page ≡ pageOf (r .counter)
+    → place ≡ placeAfter (r .counter) k → wide ≡ place → buf′ ≡ landedAt s (page + wide) (getD (r .bytes) place 0) buf → buf′ ≡ landedTo s r (k + 1) buf₀
 unfolding landedTo
-landed-turn n k page place wide r img₀ img img′ e f h w g = rw (add-one k, ← e, ← f, ← h) (rw w at g)
+landed-turn s k page place wide r buf₀ buf buf′ e f h w g = rw (add-one k, ← e, ← f, ← h) (rw w at g)
 
-pub landed-all : (n k count : ℕ) (r : BusRecord) (img₀ img : List ℕ) → img ≡ landedTo n r k img₀ → count ≡ gathered r → k ≤ count → count ≤ k
-    → img ≡ landed n r img₀
+pub landed-all : (s : Span) (k count : ℕ) (r : BusRecord) (buf₀ buf : List ℕ) → buf ≡ landedTo s r k buf₀ → count ≡ gathered r → k ≤ count → count ≤ k
+    → buf ≡ landed s r buf₀
 unfolding landed
-landed-all n k count r img₀ img e f l m = let q : k ≡ gathered r = omega arith in rw q at e
+landed-all s k count r buf₀ buf e f l m = let q : k ≡ gathered r = omega arith in rw q at e
+
+-- ---- a byte sent
+
+-- a reply with a record that is known
+pub replies : (reply : Reply) (s : BusStep) (x y : BusRecord) → Says (answered reply x) s → x ≡ y → Says (answered reply y) s
+replies reply s x y h e = rw (← e) h
+
+module _ (r : BusRecord) (s : BusStep) where
+  pub device-write : (b : ℕ) → b ≡ 0xA0 → Says (enters Acknowledged r High (r .counter)) s → Says (device r b) s
+  unfolding device
+  device-write b e h = rw e h
+
+  pub device-read : (b : ℕ) → b ≡ 0xA1 → Says (enters Acknowledged r Reading (r .counter)) s → Says (device r b) s
+  unfolding device
+  device-read b e h = rw e h
+
+  pub device-other : (b : ℕ) → (b ≡ 0xA0 → ⊥) → (b ≡ 0xA1 → ⊥) → Says (enters Declined r Deaf (r .counter)) s → Says (device r b) s
+  unfolding device
+  device-other b d e h = rw (ne-eqb b 0xA0 d, ne-eqb b 0xA1 e) h
+
+  module _ (n a : ℕ) where
+    pub address-in : within (window n) a ≡ true → Says (enters Acknowledged r Writing a) s → Says (addressed n r a) s
+    unfolding addressed
+    address-in e h = rw e h
+
+    pub address-out : within (window n) a ≡ false → Says (enters Declined r Deaf (r .counter)) s → Says (addressed n r a) s
+    unfolding addressed
+    address-out e h = rw e h
+
+    pub address-sent : (a′ : ℕ) → Says (addressed n r a) s → a ≡ a′ → Says (addressed n r a′) s
+    address-sent a′ h e = rw (← e) h
+
+  pub sent-by : (n b : ℕ) (p q : Phase) → p ≡ phaseOf (r .phase) → p ≡ q → Says (sentIn q n r b) s → Says (sent n r b) s
+  unfolding sent
+  sent-by n b p q e f h = rw (← e, f) h
 
 -- ---- a byte read
 
-pub read-inside : (n counter : ℕ) (t : Bool) → t ≡ inWindow n counter → t ≡ true → counter ≡ readAt n counter
-unfolding readAt
-read-inside n counter t e f = rw (← e, f)
+module _ (n : ℕ) (img : List ℕ) (r : BusRecord) (then : Phase) (s : BusStep) where
+  pub reads-on : (a b k : ℕ) → a ≡ readAt n (r .counter) → b ≡ byteAt n img a → k ≡ following (window n) a → Says (enters (Byte b) r then k) s
+      → Says (readOn then n img r) s
+  unfolding readOn
+  reads-on a b k e f g h = rw (← e, ← f, ← g) h
 
-pub read-outside : (n counter : ℕ) (t : Bool) → t ≡ inWindow n counter → t ≡ false → first ≡ readAt n counter
-unfolding readAt
-read-outside n counter t e f = rw (← e, f)
+  pub reading : (k : ℕ) → k ≡ 5 → r .phase ≡ k → Says (readOn then n img r) s → Says (read then n img r) s
+  unfolding read
+  reading k e f h = rw (eq-eqb (r .phase) 5 (f ∙ e)) h
 
-pub after-last : (n a l : ℕ) → l ≡ last n → a ≡ l → first ≡ following n a
-unfolding following
-after-last n a l e f = rw (eq-eqb a (last n) (f ∙ e))
-
-pub after-other : (n a l : ℕ) → l ≡ last n → (a ≡ l → ⊥) → a + 1 ≡ following n a
-unfolding following
-after-other n a l e ne = rw (ne-eqb a (last n) (λ q. ne (q ∙ sym e)))
-
-pub byte-shown : (n a o b : ℕ) (img : List ℕ) → o ≡ offset a → b ≡ shown n img (o / 4) (o % 4) → b ≡ byteAt n img a
-unfolding byteAt
-byte-shown n a o b img e h = rw (← e) h
-
-pub reads-on : (n a b k : ℕ) (img : List ℕ) (r i : BusRecord) (s : BusStep) (p : Phase) → a ≡ readAt n (r .counter) → b ≡ byteAt n img a → k ≡ following n a
-    → i ≡ idle p k → s ≡ answered (Byte b) i → s ≡ readOn p n img r
-unfolding readOn
-reads-on n a b k img r i s p e f g h l = rw (← e, ← f, ← g, ← h) l
-
--- the record's number is that of a phase
-in-phase : (r : BusRecord) (k : ℕ) (p : Phase) → k ≡ numberOf p → r .phase ≡ k → phaseOf (r .phase) ≡ p
-in-phase r k p e f = ap phaseOf (f ∙ e) ∙ phase-number p
-
-module _ (n k : ℕ) (img : List ℕ) (r : BusRecord) (s : BusStep) where
-  module _ (then : Phase) (e : k ≡ numberOf Reading) where
-    pub reading : r .phase ≡ k → s ≡ readOn then n img r → s ≡ read then n img r
-    unfolding read readIn
-    reading f h = rw (in-phase r k Reading e f) h
-
-    pub not-reading : (r .phase ≡ k → ⊥) → s ≡ answered (Byte noByte) r → s ≡ read then n img r
-    unfolding read readIn numberOf
-    not-reading f h =
-        h ∙ sym (phase-by (λ q. readIn q then n img r ≡ answered (Byte noByte) r) (r .phase) (λ _. refl) (λ _. refl) (λ _. refl) (λ _. refl)
-        (λ p. absurd (f (p ∙ sym e))) (λ _. refl) refl)
-
-  -- ---- stop
-
-  module _ (e : k ≡ numberOf Writing) where
-    pub stop-kept : (r .phase ≡ k → ⊥) → s ≡ rests r → Did (stopped n r) s img img
-    unfolding stopped stoppedIn numberOf after
-    stop-kept f h =
-        let kept : stopped n r ≡ keeping (rests r) =
-        phase-by (λ q. stoppedIn q n r ≡ keeping (rests r)) (r .phase) (λ _. refl) (λ _. refl) (λ _. refl) (λ p. absurd (f (p ∙ sym e)))
-        (λ _. refl) (λ _. refl) refl in
-        rw kept (record { step = h; image = refl })
-
-    pub stop-stores : (img′ : List ℕ) (counter : ℕ) (i : BusRecord) → r .phase ≡ k → img′ ≡ landed n r img → counter ≡ counterAfter r → i ≡ idle Rest counter
-        → s ≡ answered Nothing i → Did (stopped n r) s img img′
-    unfolding stopped stoppedIn after
-    stop-stores img′ counter i f g h l m = rw (in-phase r k Writing e f) (record { step = rw (← h, ← l) m; image = g })
+  pub not-reading : (k : ℕ) → k ≡ 5 → (r .phase ≡ k → ⊥) → Says (answered (Byte noByte) r) s → Says (read then n img r) s
+  unfolding read
+  not-reading k e f h = rw (ne-eqb (r .phase) 5 (λ q. f (q ∙ sym e))) h
 
 -- ---- an event
 
-module _ (n event b : ℕ) (img : List ℕ) (r : BusRecord) (s : BusStep) where
-  pub event-start : event ≡ 0 → s ≡ started r → Did (byEvent n img r event b) s img img
-  unfolding byEvent after
-  event-start e h = rw e (record { step = h; image = refl })
+-- what isn't lent the image leaves it
+pub left : (o : Does) (s : BusStep) (img : List ℕ) → Says o s → Did o s img img
+unfolding after
+left o s img h = record { answer = h .answer; bus = h .bus; image = sym (ap (after img) (h .effect)) }
 
-  pub event-stop : (img′ : List ℕ) → event ≡ 1 → Did (stopped n r) s img img′ → Did (byEvent n img r event b) s img img′
-  unfolding byEvent
-  event-stop img′ e h = rw e h
+module _ (n : ℕ) (img img′ : List ℕ) (r : BusRecord) (s : BusStep) where
+  pub stop-stores : (k counter : ℕ) (w : Span) → k ≡ 4 → r .phase ≡ k → w ≡ window n → img′ ≡ landed w r img → counter ≡ counterAfter r
+      → Says (enters Nothing r Rest counter) s → Did (stopped n r) s img img′
+  unfolding stopped after
+  stop-stores k counter w e f g h l m =
+      rw (eq-eqb (r .phase) 4 (f ∙ e)) (record { answer = m .answer; bus = rw (← l) (m .bus); image = rw (← g) h })
 
-  pub event-sent : event ≡ 2 → s ≡ sent n r b → Did (byEvent n img r event b) s img img
-  unfolding byEvent after
-  event-sent e h = rw e (record { step = h; image = refl })
+  pub stop-kept : (k : ℕ) → k ≡ 4 → (r .phase ≡ k → ⊥) → Says (enters Nothing r Rest (r .counter)) s → Did (stopped n r) s img img
+  unfolding stopped
+  stop-kept k e f h = rw (ne-eqb (r .phase) 4 (λ q. f (q ∙ sym e))) (left _ s img h)
 
-  pub event-read : event ≡ 3 → s ≡ read Reading n img r → Did (byEvent n img r event b) s img img
-  unfolding byEvent after
-  event-read e h = rw e (record { step = h; image = refl })
+  module _ (event b : ℕ) where
+    pub event-start : event ≡ 0 → Says (started r) s → Did (byEvent n img r event b) s img img
+    unfolding byEvent
+    event-start e h = rw e (left _ s img h)
 
-  pub event-read-last : event ≡ 4 → s ≡ read Deaf n img r → Did (byEvent n img r event b) s img img
-  unfolding byEvent after
-  event-read-last e h = rw e (record { step = h; image = refl })
+    pub event-stop : event ≡ 1 → Did (stopped n r) s img img′ → Did (byEvent n img r event b) s img img′
+    unfolding byEvent
+    event-stop e h = rw e h
 
-  pub event-unknown : (event ≡ 0 → ⊥) → (event ≡ 1 → ⊥) → (event ≡ 2 → ⊥) → (event ≡ 3 → ⊥) → (event ≡ 4 → ⊥) → s ≡ answered (Refused 4) r → Did (byEvent n img r event b) s img img
-  unfolding byEvent refuses after
-  event-unknown u v x y z h = rw (ne-eqb event 0 u, ne-eqb event 1 v, ne-eqb event 2 x, ne-eqb event 3 y, ne-eqb event 4 z) (record { step = h; image = refl })
+    pub event-sent : event ≡ 2 → Says (sent n r b) s → Did (byEvent n img r event b) s img img
+    unfolding byEvent
+    event-sent e h = rw e (left _ s img h)
 
-  module _ (size : Size) (e : size ≡ sizeOf (length img)) where
-    pub size-unknown : size ≡ Unknown → s ≡ answered (Refused 1) r → Did (does img r event b) s img img
-    unfolding does bySize refuses after
-    size-unknown f h = rw (← e, f) (record { step = h; image = refl })
+    pub event-read : event ≡ 3 → Says (read Reading n img r) s → Did (byEvent n img r event b) s img img
+    unfolding byEvent
+    event-read e h = rw e (left _ s img h)
 
-    pub size-known : (img′ : List ℕ) → size ≡ Pages n → Did (byEvent n img r event b) s img img′ → Did (does img r event b) s img img′
-    unfolding does bySize
-    size-known img′ f h = rw (← e, f) h
+    pub event-read-last : event ≡ 4 → Says (read Deaf n img r) s → Did (byEvent n img r event b) s img img
+    unfolding byEvent
+    event-read-last e h = rw e (left _ s img h)
+
+    pub event-unknown : (event ≡ 0 → ⊥) → (event ≡ 1 → ⊥) → (event ≡ 2 → ⊥) → (event ≡ 3 → ⊥) → (event ≡ 4 → ⊥) → Says (answered (Refused 4) r) s
+        → Did (byEvent n img r event b) s img img
+    unfolding byEvent
+    event-unknown u v x y z h = rw (ne-eqb event 0 u, ne-eqb event 1 v, ne-eqb event 2 x, ne-eqb event 3 y, ne-eqb event 4 z) (left _ s img h)
+
+    module _ (size : Size) (e : size ≡ sizeOf (length img)) where
+      pub size-unknown : size ≡ Unknown → Says (answered (Refused 1) r) s → Did (does img r event b) s img img
+      unfolding does bySize
+      size-unknown f h = rw (← e, f) (left _ s img h)
+
+      pub size-known : size ≡ Pages n → Did (byEvent n img r event b) s img img′ → Did (does img r event b) s img img′
+      unfolding does bySize
+      size-known f h = rw (← e, f) h
 
 pub size-fits : (n : ℕ) (img : List ℕ) (size : Size) → size ≡ sizeOf (length img) → size ≡ Pages n → Fits n img
 size-fits n img size e f = fits n img (sym e ∙ f)

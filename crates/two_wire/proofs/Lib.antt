@@ -1,4 +1,5 @@
 pub mod Laws
+pub mod Outer
 pub mod Examples
 pub mod Outcome
 pub mod Stored

@@ -1,131 +1,110 @@
--- The outcome of an event is one, and a refused call leaves everything. Assumes nothing.
-use mathlib.Core.Path.{_≡_, refl, sym, ap, _∙_}
+-- The outcome of an event is one, only a stop stores, and a refused call leaves everything. Assumes nothing.
+use mathlib.Core.Path.{_≡_, refl, sym, ap₂, _∙_}
 use mathlib.Core.List.{List}
-use mathlib.Core.Bool.{Bool, true, false, cond}
 use Prim.Native.Nat.{ℕ, _<_}
 use native.Mathlib.Omega.{arith}
 use lib.Dec.{eqb}
 use lib.ListN.{length}
-use borrow.Author.Tests.{ne-eqb}
+use borrow.Author.Tests.{ne-eqb, eqb-true}
+use Rattle.basics.specs.Bytes.{lowFirst}
+use Rattle.basics.proofs.Choice.{by}
 use Rattle.image.specs.Layout.{sizeOf}
-use Rattle.image.specs.declared.Size.{Size}
-use Rattle.image.specs.declared.Size.the-variants.{Pages, Unknown}
-use Rattle.two_wire.specs.Window.{inWindow}
-use Rattle.two_wire.specs.Record.{phaseOf}
-use Rattle.two_wire.specs.Answer.{answerOf, answered}
-use Rattle.two_wire.specs.Step.{start, stop, byteSent, byteReadAck, byteReadLast, Effect, keep, land, Does, after, keeping, started, device, addressed, address, sentIn, sent, rests, stoppedIn, stopped, readOn, readIn, read, refuses, byEvent, bySize, does, Did}
+use Rattle.image.specs.declared.layout.Size.{Size}
+use Rattle.image.specs.declared.layout.Size.the-variants.{Pages, Unknown}
+use Rattle.two_wire.specs.Span.{within}
+use Rattle.two_wire.specs.Window.{window}
+use Rattle.two_wire.specs.Record.{phaseOf, isIn}
+use Rattle.two_wire.specs.Answer.{answerOf}
+use Rattle.two_wire.specs.Event.{start, stop, byteSent, byteReadAck, byteReadLast, writeCode, readCode, Effect, keep, land, Does, after, started, device, addressed, sentIn, sent, stopped, readOn, read, refuses, byEvent, bySize, does}
+use Rattle.two_wire.specs.Promises.{OneOutcome}
+use Rattle.two_wire.specs.declared.answer.BusAnswer.{BusAnswer}
+use Rattle.two_wire.specs.declared.record.BusRecord.{BusRecord}
+use Rattle.two_wire.specs.declared.record.Phase.{Phase}
+use Rattle.two_wire.specs.declared.record.Phase.the-variants.{Rest, Device, High, Low, Writing, Reading, Deaf}
+use Rattle.two_wire.specs.declared.event.BusStep.{BusStep}
 use Rattle.two_wire.proofs.Stored.{length-landed}
-use Rattle.two_wire.specs.declared.BusRecord.{BusRecord}
-use Rattle.two_wire.specs.declared.BusStep.{BusStep}
-use Rattle.two_wire.specs.declared.Phase.{Phase}
-use Rattle.two_wire.specs.declared.Phase.the-variants.{Rest, Device, High, Low, Writing, Reading, Deaf}
 
--- two outcomes that are allowed for one input are equal: the answer, the record left and every byte of the image
-pub one-outcome : (o : Does) (s s′ : BusStep) (img a a′ : List ℕ) → Did o s img a → Did o s′ img a′ → (s ≡ s′) × (a ≡ a′)
-one-outcome o s s′ img a a′ d d′ = (d .step ∙ sym (d′ .step), d .image ∙ sym (d′ .image))
+pub one-outcome : OneOutcome
+one-outcome o s s′ img a a′ d d′ =
+    (ap₂ {C = BusStep} (λ (x : BusAnswer) (y : BusRecord). record { answer = x; bus = y }) (d .answer ∙ sym (d′ .answer)) (d .bus ∙ sym (d′ .bus)), d .image ∙ sym (d′ .image))
 
--- ---- what an event does to the image
-
--- its length stays
+-- an event leaves the image's length
 pub length-after : (img : List ℕ) (e : Effect) → length (after img e) ≡ length img
 unfolding after
 length-after img keep = refl
-length-after img (land n r) = length-landed n r img
+length-after img (land s r) = length-landed s r img
 
--- an event that is no stop stores nothing
-pub only-stop-stores : (img : List ℕ) (r : BusRecord) (event b : ℕ) → (event ≡ stop → ⊥) → does img r event b .effect ≡ keep
-unfolding does bySize byEvent refuses
-only-stop-stores img r event b ne = by-size (sizeOf (length img))
-  where
-    by : (n : ℕ) (s u v x : Bool)
-        → cond s (keeping (started r)) (cond u (keeping (sent n r b)) (cond v (keeping (read Reading n img r)) (cond x (keeping (read Deaf n img r)) (refuses 4 r)))) .effect ≡ keep
-    by n true u v x = refl
-    by n false true v x = refl
-    by n false false true x = refl
-    by n false false false true = refl
-    by n false false false false = refl
+-- ---- the ways of an event
 
-    by-size : (size : Size) → bySize size img r event b .effect ≡ keep
-    by-size Unknown = refl
-    by-size (Pages n) = rw (ne-eqb event stop ne) (by n (eqb event start) (eqb event byteSent) (eqb event byteReadAck) (eqb event byteReadLast))
+module _ (img : List ℕ) (r : BusRecord) (event b : ℕ) (P : Does → Type 0) where
+  by-event : (n : ℕ) → P (started r) → (event ≡ stop → P (stopped n r)) → P (sent n r b) → ((p : Phase) → P (read p n img r)) → P (refuses 4 r)
+      → P (byEvent n img r event b)
+  unfolding byEvent
+  by-event n p q s t u =
+      by P (eqb event start) (λ _. p) (λ _.
+      by P (eqb event stop) (λ e. q (eqb-true event stop e)) (λ _.
+      by P (eqb event byteSent) (λ _. s) (λ _.
+      by P (eqb event byteReadAck) (λ _. t Reading) (λ _.
+      by P (eqb event byteReadLast) (λ _. t Deaf) (λ _. u)))))
 
--- ---- which calls are refused
-
-abbrev numberIn : BusStep → ℕ
-numberIn s = s .answer .refused
-
-pick : (P : BusStep → Type 0) (t : Bool) {x y : BusStep} → P x → P y → P (cond t x y)
-pick P true p q = p
-pick P false p q = q
-
-abbrev Taken : BusStep → Type 0
-Taken s = numberIn s ≡ 0
-
-sent-taken : (p : Phase) (n : ℕ) (r : BusRecord) (b : ℕ) → Taken (sentIn p n r b)
-unfolding sentIn device addressed answered answerOf
-sent-taken Device n r b = pick Taken (eqb b 0xA0) refl (pick Taken (eqb b 0xA1) refl refl)
-sent-taken High n r b = refl
-sent-taken Low n r b = pick Taken (inWindow n (address (r .held) b)) refl refl
-sent-taken Writing n r b = refl
-sent-taken Reading n r b = refl
-sent-taken Rest n r b = refl
-sent-taken Deaf n r b = refl
-
-stop-taken : (p : Phase) (n : ℕ) (r : BusRecord) → Taken (stoppedIn p n r .step)
-unfolding stoppedIn rests answered answerOf
-stop-taken Device n r = refl
-stop-taken High n r = refl
-stop-taken Low n r = refl
-stop-taken Writing n r = refl
-stop-taken Reading n r = refl
-stop-taken Rest n r = refl
-stop-taken Deaf n r = refl
-
-read-taken : (q p : Phase) (n : ℕ) (img : List ℕ) (r : BusRecord) → Taken (readIn q p n img r)
-unfolding readIn readOn answered answerOf
-read-taken Device p n img r = refl
-read-taken High p n img r = refl
-read-taken Low p n img r = refl
-read-taken Writing p n img r = refl
-read-taken Reading p n img r = refl
-read-taken Rest p n img r = refl
-read-taken Deaf p n img r = refl
-
--- a refusal, with the record that was given, or no refusal at all
-data Fate (r : BusRecord) (o : Does) : Type 0 where
-  taken : Taken (o .step) → Fate r o
-  refusal : (k : ℕ) → o ≡ refuses k r → Fate r o
-
-module _ (n : ℕ) (img : List ℕ) (r : BusRecord) (event b : ℕ) where
-  event-fate : Fate r (byEvent n img r event b)
-  unfolding byEvent started stopped sent read answered answerOf
-  event-fate = by (eqb event start) (eqb event stop) (eqb event byteSent) (eqb event byteReadAck) (eqb event byteReadLast)
+  by-size : P (refuses 1 r) → ((n : ℕ) → P (byEvent n img r event b)) → P (does img r event b)
+  unfolding does bySize
+  by-size u p = of (sizeOf (length img))
     where
-      by : (s t u v x : Bool) → Fate r (cond s (keeping (started r)) (cond t (stopped n r) (cond u (keeping (sent n r b)) (cond v (keeping (read Reading n img r)) (cond x (keeping (read Deaf n img r)) (refuses 4 r))))))
-      by true t u v x = taken refl
-      by false true u v x = taken (stop-taken (phaseOf (r .phase)) n r)
-      by false false true v x = taken (sent-taken (phaseOf (r .phase)) n r b)
-      by false false false true x = taken (read-taken (phaseOf (r .phase)) Reading n img r)
-      by false false false false true = taken (read-taken (phaseOf (r .phase)) Deaf n img r)
-      by false false false false false = refusal 4 refl
+      of : (size : Size) → P (bySize size img r event b)
+      of Unknown = u
+      of (Pages n) = p n
+
+-- ---- what no event but a stop stores, and which calls are refused
+
+abbrev Taken : Does → Type 0
+Taken o = answerOf (o .reply) .refused ≡ 0
+
+abbrev Keeps : Does → Type 0
+Keeps o = o .effect ≡ keep
+
+abbrev Mild : Does → Type 0
+Mild o = Taken o × Keeps o
+
+module _ (n : ℕ) (r : BusRecord) where
+  sent-mild : (p : Phase) (b : ℕ) → Mild (sentIn p n r b)
+  unfolding device addressed
+  sent-mild Device b = by Mild (eqb b writeCode) (λ _. (refl, refl)) (λ _. by Mild (eqb b readCode) (λ _. (refl, refl)) (λ _. (refl, refl)))
+  sent-mild High b = (refl, refl)
+  sent-mild Low b = by Mild (within (window n) (lowFirst b (r .held))) (λ _. (refl, refl)) (λ _. (refl, refl))
+  sent-mild Writing b = (refl, refl)
+  sent-mild Reading b = (refl, refl)
+  sent-mild Rest b = (refl, refl)
+  sent-mild Deaf b = (refl, refl)
+
+  read-mild : (img : List ℕ) (p : Phase) → Mild (read p n img r)
+  unfolding read readOn
+  read-mild img p = by Mild (isIn Reading r) (λ _. (refl, refl)) (λ _. (refl, refl))
+
+  stop-taken : Taken (stopped n r)
+  unfolding stopped
+  stop-taken = by Taken (isIn Writing r) (λ _. refl) (λ _. refl)
 
 module _ (img : List ℕ) (r : BusRecord) (event b : ℕ) where
-  fate : Fate r (does img r event b)
-  unfolding does bySize
-  fate = by (sizeOf (length img))
-    where
-      by : (size : Size) → Fate r (bySize size img r event b)
-      by Unknown = refusal 1 refl
-      by (Pages n) = event-fate n img r event b
+  -- an event that is no stop stores nothing
+  pub only-stop-stores : (event ≡ stop → ⊥) → does img r event b .effect ≡ keep
+  unfolding sent
+  only-stop-stores ne =
+      by-size img r event b Keeps refl (λ n. by-event img r event b Keeps n refl (λ e. absurd (ne e)) (sent-mild n r (phaseOf (r .phase)) b .1) (λ p. read-mild n r img p .1) refl)
 
   -- "A refused call returns its number, no answer, the records it was given, and every buffer untouched."
-  pub refused-leaves : (does img r event b .step .answer .refused ≡ 0 → ⊥) → (does img r event b .step .bus ≡ r) × (after img (does img r event b .effect) ≡ img)
-  unfolding refuses answered after
-  refused-leaves ne = from fate
-    where
-      from : Fate r (does img r event b) → (does img r event b .step .bus ≡ r) × (after img (does img r event b .effect) ≡ img)
-      from (taken t) = absurd (ne t)
-      from (refusal k e) = (ap (λ (o : Does). o .step .bus) e, ap (λ (o : Does). after img (o .effect)) e)
+  abbrev Left : Does → Type 0
+  Left o = (answerOf (o .reply) .refused ≡ 0 → ⊥) → (o .bus ≡ r) × (after img (o .effect) ≡ img)
+
+  taken : (o : Does) → Taken o → Left o
+  taken o t ne = absurd (ne t)
+
+  pub refused-leaves : Left (does img r event b)
+  unfolding sent after
+  refused-leaves =
+      by-size img r event b Left (λ _. (refl, refl)) (λ n.
+      by-event img r event b Left n (taken (started r) refl) (λ _. taken (stopped n r) (stop-taken n r)) (taken (sent n r b) (sent-mild n r (phaseOf (r .phase)) b .0))
+      (λ p. taken (read p n img r) (read-mild n r img p .0)) (λ _. (refl, refl)))
 
   -- "1: image length isn't 184, 544 or 928"
   pub refused-length : sizeOf (length img) ≡ Unknown → does img r event b ≡ refuses 1 r

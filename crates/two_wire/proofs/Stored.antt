@@ -1,130 +1,117 @@
--- What a stop stores, byte by byte: a gathered byte lands at its place, and no byte changes outside the 64-byte page of the address sent,
--- below image byte 10 or past the window. Assumes nothing.
+-- What a stop stores in the buffer behind a span of addresses, byte by byte: a gathered byte lands at its place, and no byte changes outside
+-- the 64-byte page of the address sent, among those that are kept, or past the span. Assumes nothing.
 use mathlib.Core.Path.{_≡_, refl, sym, _∙_}
 use mathlib.Core.Logic.{_≢_}
 use mathlib.Core.List.{List}
-use mathlib.Core.Bool.{Bool, true, false, cond}
-use Prim.Native.Nat.{ℕ, zero, suc, _+_, _*_, _≤_, _<_}
+use mathlib.Core.Bool.{true}
+use Prim.Native.Nat.{ℕ, zero, suc, _+_, _≤_, _<_}
 use native.Mathlib.Omega.{arith}
 use lib.Dec.{eqb, leb}
-use lib.ListN.{length, getD, set}
+use lib.ListN.{length, getD}
 use lib.Seq.{getD-set-same, getD-set-other}
-use borrow.Author.Tests.{eqb-true, eqb-false, leb-true, le-leb}
-use Rattle.image.specs.Layout.{Fits}
-use Rattle.two_wire.specs.Window.{first, inWindow, offset, pageOf, placeOf, placeAfter, firstStored}
+use borrow.Author.Tests.{eqb-true, eqb-false, leb-true}
+use Rattle.basics.proofs.Choice.{and-left, and-right, by, split}
+use Rattle.two_wire.specs.Span.{offset, within, stores}
+use Rattle.two_wire.specs.Window.{pageOf, placeOf, placeAfter}
 use Rattle.two_wire.specs.Gathered.{gathered, landedAt, landedTo, landed}
-use Rattle.two_wire.specs.declared.BusRecord.{BusRecord}
-use Rattle.two_wire.proofs.Laws.{window-first, window-last, length-landed-at, fits-landed-at}
+use Rattle.two_wire.specs.declared.record.BusRecord.{BusRecord}
+use Rattle.two_wire.specs.declared.span.Span.{Span}
+use Rattle.two_wire.proofs.Laws.{first-at-most, offset-below, length-landed-at}
 
--- ---- one byte
+module _ (s : Span) where
+  -- ---- one byte
 
-module _ (n a b : ℕ) (img : List ℕ) where
-  at-other : (o : ℕ) → (inWindow n a ≡ true → firstStored ≤ offset a → o ≢ offset a) → getD (landedAt n a b img) o 0 ≡ getD img o 0
-  unfolding landedAt
-  at-other o h = by (inWindow n a) (leb firstStored (offset a)) refl refl
-    where
-      by : (t u : Bool) → inWindow n a ≡ t → leb firstStored (offset a) ≡ u → getD (cond t (cond u (set img (offset a) b) img) img) o 0 ≡ getD img o 0
-      by true true q v = getD-set-other img (offset a) o b 0 (h q (leb-true firstStored (offset a) v))
-      by true false q v = refl
-      by false u q v = refl
+  module _ (a : ℕ) (t : stores s a ≡ true) where
+    inside : within s a ≡ true
+    unfolding stores
+    inside = and-left (within s a) (leb (s .kept) (offset s a)) t
 
-  at-here : inWindow n a ≡ true → firstStored ≤ offset a → offset a < length img → getD (landedAt n a b img) (offset a) 0 ≡ b
-  unfolding landedAt
-  at-here e l k = rw (e, le-leb firstStored (offset a) l) (getD-set-same img (offset a) b 0 k)
+    from-first : s .first ≤ a
+    from-first = first-at-most s a inside
 
--- ---- all of them
+    below-length : offset s a < s .length
+    below-length = offset-below s a inside
 
-module _ (n : ℕ) (r : BusRecord) (img : List ℕ) where
-  -- the address of data byte k, and the byte
-  abbrev addressOf : ℕ → ℕ
-  addressOf k = pageOf (r .counter) + placeAfter (r .counter) k
+    from-kept : s .kept ≤ offset s a
+    unfolding stores
+    from-kept = leb-true (s .kept) (offset s a) (and-right (within s a) (leb (s .kept) (offset s a)) t)
 
-  abbrev byteOf : ℕ → ℕ
-  byteOf k = getD (r .bytes) (placeAfter (r .counter) k) 0
+  module _ (a b : ℕ) (buf : List ℕ) where
+    at-other : (o : ℕ) → (stores s a ≡ true → o ≢ offset s a) → getD (landedAt s a b buf) o 0 ≡ getD buf o 0
+    unfolding landedAt
+    at-other o h =
+        by (λ (xs : List ℕ). getD xs o 0 ≡ getD buf o 0) (stores s a) (λ t. getD-set-other buf (offset s a) o b 0 (h t)) (λ _. refl)
 
-  abbrev Lands : ℕ → Type 0
-  Lands k = (inWindow n (addressOf k) ≡ true) × (firstStored ≤ offset (addressOf k))
+    at-here : stores s a ≡ true → offset s a < length buf → getD (landedAt s a b buf) (offset s a) 0 ≡ b
+    unfolding landedAt
+    at-here t k = rw t (getD-set-same buf (offset s a) b 0 k)
 
-  fits-landed-to : (k : ℕ) → Fits n img → Fits n (landedTo n r k img)
-  unfolding landedTo
-  fits-landed-to zero f = f
-  fits-landed-to (suc k) f = fits-landed-at n (addressOf k) (byteOf k) (landedTo n r k img) _ (fits-landed-to k f) refl
+  -- ---- all of them
 
-  length-landed-to : (k : ℕ) → length (landedTo n r k img) ≡ length img
-  unfolding landedTo
-  length-landed-to zero = refl
-  length-landed-to (suc k) = length-landed-at n (addressOf k) (byteOf k) (landedTo n r k img) ∙ length-landed-to k
+  module _ (r : BusRecord) (buf : List ℕ) where
+    -- the address of data byte k, and the byte
+    abbrev addressOf : ℕ → ℕ
+    addressOf k = pageOf (r .counter) + placeAfter (r .counter) k
 
-  pub length-landed : length (landed n r img) ≡ length img
-  unfolding landed
-  length-landed = length-landed-to (gathered r)
+    abbrev byteOf : ℕ → ℕ
+    byteOf k = getD (r .bytes) (placeAfter (r .counter) k) 0
 
-  pub fits-landed : Fits n img → Fits n (landed n r img)
-  unfolding landed
-  fits-landed f = fits-landed-to (gathered r) f
+    length-landed-to : (k : ℕ) → length (landedTo s r k buf) ≡ length buf
+    unfolding landedTo
+    length-landed-to zero = refl
+    length-landed-to (suc k) = length-landed-at s (addressOf k) (byteOf k) (landedTo s r k buf) ∙ length-landed-to k
 
-  -- data byte k leaves byte o: it isn't stored, or it is another byte's
-  abbrev Spares : ℕ → ℕ → Type 0
-  Spares o k = Lands k → o ≢ offset (addressOf k)
+    pub length-landed : length (landed s r buf) ≡ length buf
+    unfolding landed
+    length-landed = length-landed-to (gathered r)
 
-  spared-to : (o k : ℕ) → ((j : ℕ) → j < k → Spares o j) → getD (landedTo n r k img) o 0 ≡ getD img o 0
-  unfolding landedTo
-  spared-to o zero h = refl
-  spared-to o (suc k) h =
-      at-other n (addressOf k) (byteOf k) (landedTo n r k img) o (λ w s. h k (omega arith) (w, s)) ∙ spared-to o k (λ j l. h j (omega arith))
+    -- data byte k leaves byte o: it isn't stored, or it is another byte's
+    abbrev Spares : ℕ → ℕ → Type 0
+    Spares o k = stores s (addressOf k) ≡ true → o ≢ offset s (addressOf k)
 
-  pub spared : (o : ℕ) → ((k : ℕ) → k < gathered r → Spares o k) → getD (landed n r img) o 0 ≡ getD img o 0
-  unfolding landed
-  spared o h = spared-to o (gathered r) h
+    spared-to : (o k : ℕ) → ((j : ℕ) → j < k → Spares o j) → getD (landedTo s r k buf) o 0 ≡ getD buf o 0
+    unfolding landedTo
+    spared-to o zero h = refl
+    spared-to o (suc k) h = at-other (addressOf k) (byteOf k) (landedTo s r k buf) o (h k (omega arith)) ∙ spared-to o k (λ j l. h j (omega arith))
 
-  -- "except image bytes 0-9"
-  pub first-bytes-kept : (o : ℕ) → o < 10 → getD (landed n r img) o 0 ≡ getD img o 0
-  first-bytes-kept o l = spared o (λ k h s e. let stored = s .1 in omega arith)
+    spared : (o : ℕ) → ((k : ℕ) → k < gathered r → Spares o k) → getD (landed s r buf) o 0 ≡ getD buf o 0
+    unfolding landed
+    spared o h = spared-to o (gathered r) h
 
-  -- "and places past the window": the tail
-  pub tail-kept : (o : ℕ) → 45 ≤ n → 4 * n ≤ o → getD (landed n r img) o 0 ≡ getD img o 0
-  tail-kept o g l = spared o (λ k h s e. let m = window-last n (addressOf k) (inWindow n (addressOf k)) refl (s .0) in omega arith)
+    -- "except image bytes 0-9"
+    pub kept-stay : (o : ℕ) → o < s .kept → getD (landed s r buf) o 0 ≡ getD buf o 0
+    kept-stay o l = spared o (λ k h t e. omega (arith, from-kept (addressOf k) t))
 
-  -- a byte of another page than that of the address sent
-  pub other-pages-kept : (o : ℕ) → pageOf (first + o) ≢ pageOf (r .counter) → getD (landed n r img) o 0 ≡ getD img o 0
-  unfolding pageOf placeAfter
-  other-pages-kept o d = spared o (λ k h s e. let m = window-first n (addressOf k) (inWindow n (addressOf k)) refl (s .0) in d (omega arith))
+    -- "and places past the window": the tail
+    pub past-stay : (o : ℕ) → s .length ≤ o → getD (landed s r buf) o 0 ≡ getD buf o 0
+    past-stay o l = spared o (λ k h t e. omega (arith, below-length (addressOf k) t))
 
-  -- a byte whose place wasn't gathered
-  pub ungathered-kept : (o : ℕ) → ((k : ℕ) → k < gathered r → placeOf (first + o) ≢ placeAfter (r .counter) k) → getD (landed n r img) o 0 ≡ getD img o 0
-  unfolding pageOf placeAfter
-  ungathered-kept o d = spared o (λ k h s e. let m = window-first n (addressOf k) (inWindow n (addressOf k)) refl (s .0) in d k h (omega arith))
+    -- a byte of another page than that of the address sent
+    pub other-pages-stay : (o : ℕ) → pageOf (s .first + o) ≢ pageOf (r .counter) → getD (landed s r buf) o 0 ≡ getD buf o 0
+    other-pages-stay o d = spared o (λ k h t e. d (omega (arith, from-first (addressOf k) t)))
 
-  -- a gathered byte that is in the window and not among the first ten lands
-  landed-to-here : (j k : ℕ) → Fits n img → j < k → k ≤ 64 → Lands j → getD (landedTo n r k img) (offset (addressOf j)) 0 ≡ byteOf j
-  unfolding landedTo placeAfter
-  landed-to-here j zero f l m s = absurd (omega arith)
-  landed-to-here j (suc k) f l m s = by (eqb j k) refl (λ h. landed-to-here j k f h (omega arith) s)
-    where
-      from-first : (i : ℕ) → Lands i → first ≤ addressOf i
-      from-first i s = window-first n (addressOf i) (inWindow n (addressOf i)) refl (s .0)
+    -- a byte whose place wasn't gathered
+    pub ungathered-stay : (o : ℕ) → ((k : ℕ) → k < gathered r → placeOf (s .first + o) ≢ placeAfter (r .counter) k) → getD (landed s r buf) o 0 ≡ getD buf o 0
+    ungathered-stay o d = spared o (λ k h t e. d k h (omega (arith, from-first (addressOf k) t)))
 
-      within : offset (addressOf j) < length (landedTo n r k img)
-      within =
-          let g = fits-landed-to k f in
-          let least = g .least in
-          let whole = g .whole in
-          omega (arith, from-first j s, window-last n (addressOf j) (inWindow n (addressOf j)) refl (s .0))
+    -- within a page two data bytes have two places
+    apart : (i j : ℕ) → stores s (addressOf i) ≡ true → stores s (addressOf j) ≡ true → i < 64 → j < 64 → i ≢ j → offset s (addressOf j) ≢ offset s (addressOf i)
+    apart i j t u l m ne e = ne (omega (arith, from-first (addressOf i) t, from-first (addressOf j) u))
 
-      -- within a page two data bytes have two places
-      apart : (i : ℕ) → Lands i → i < 64 → j < 64 → i ≢ j → offset (addressOf j) ≢ offset (addressOf i)
-      apart i t u v ne e = ne (omega (arith, from-first i t, from-first j s))
+    -- a gathered byte that this side stores lands
+    landed-to-here : (j k : ℕ) → s .length ≤ length buf → j < k → k ≤ 64 → stores s (addressOf j) ≡ true → getD (landedTo s r k buf) (offset s (addressOf j)) 0 ≡ byteOf j
+    unfolding landedTo
+    landed-to-here j zero f l m t = absurd (omega arith)
+    landed-to-here j (suc k) f l m t =
+        split (eqb j k)
+        (λ e.
+        let q : j ≡ k = eqb-true j k e in
+        rw (← q) (at-here (addressOf j) (byteOf j) (landedTo s r j buf) t (omega (arith, below-length (addressOf j) t, length-landed-to j))))
+        (λ e.
+        let ne : j ≡ k → ⊥ = eqb-false j k e in
+        at-other (addressOf k) (byteOf k) (landedTo s r k buf) (offset s (addressOf j)) (λ u. apart k j u t (omega arith) (omega arith) (λ p. ne (sym p)))
+        ∙ landed-to-here j k f (omega (arith, ne)) (omega arith) t)
 
-      by : (t : Bool) → eqb j k ≡ t → (j < k → getD (landedTo n r k img) (offset (addressOf j)) 0 ≡ byteOf j)
-          → getD (landedAt n (addressOf k) (byteOf k) (landedTo n r k img)) (offset (addressOf j)) 0 ≡ byteOf j
-      by true p below =
-          let q : j ≡ k = eqb-true j k p in
-          rw (← q) (at-here n (addressOf j) (byteOf j) (landedTo n r j img) (s .0) (s .1) (rw (← q) at within))
-      by false p below =
-          let ne : j ≡ k → ⊥ = eqb-false j k p in
-          at-other n (addressOf k) (byteOf k) (landedTo n r k img) (offset (addressOf j)) (λ w t. apart k (w, t) (omega arith) (omega arith) (λ e. ne (sym e)))
-          ∙ below (omega (arith, ne))
-
-  pub landed-here : (j : ℕ) → Fits n img → j < gathered r → Lands j → getD (landed n r img) (offset (addressOf j)) 0 ≡ byteOf j
-  unfolding landed gathered
-  landed-here j f l s = landed-to-here j (gathered r) f l (omega arith) s
+    pub landed-here : (j : ℕ) → s .length ≤ length buf → j < gathered r → stores s (addressOf j) ≡ true → getD (landed s r buf) (offset s (addressOf j)) 0 ≡ byteOf j
+    unfolding landed
+    landed-here j f l t = landed-to-here j (gathered r) f l (omega arith) t

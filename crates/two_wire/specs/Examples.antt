@@ -3,12 +3,12 @@ use mathlib.Core.Path.{_≡_}
 use mathlib.Core.List.{List, [], _∷_}
 use Prim.Native.Nat.{ℕ, _+_, _*_}
 use lib.ListN.{replicate, set}
-use Rattle.two_wire.specs.Record.{idle, atRest}
+use Rattle.two_wire.specs.Record.{entered, atRest}
 use Rattle.two_wire.specs.Answer.{answerOf}
-use Rattle.two_wire.specs.Step.{byteSent}
+use Rattle.two_wire.specs.Event.{byteSent}
 use Rattle.two_wire.specs.Run.{Wires, answerTo, afterStart, afterStop, afterWrite, afterBytes}
-use Rattle.two_wire.specs.declared.Phase.the-variants.{Rest}
-use Rattle.two_wire.specs.declared.Reply.the-variants.{Acknowledged, Declined}
+use Rattle.two_wire.specs.declared.record.Phase.the-variants.{Rest}
+use Rattle.two_wire.specs.declared.answer.Reply.the-variants.{Acknowledged, Declined}
 
 -- an image of n pages, all zeros, at a bus at rest
 abbrev pub blank : ℕ → List ℕ
@@ -30,4 +30,4 @@ pub record WireExamples : Type 0 where
   pub inside : answerTo (afterBytes (afterStart (fresh 45)) (0xA0 ∷ 0x40 ∷ [])) byteSent 0xB3 ≡ answerOf Acknowledged
   pub outside : answerTo (afterBytes (afterStart (fresh 45)) (0xA0 ∷ 0x40 ∷ [])) byteSent 0xB4 ≡ answerOf Declined
   -- "Start, A0h, address, data, start, stop: nothing stored", and the counter stays at the address sent
-  pub dropped : (b : ℕ) → afterStop (afterStart (afterWrite (fresh 45) 0x40 0x10 (b ∷ []))) ≡ record { image = blank 45; bus = idle Rest 0x4010 }
+  pub dropped : (b : ℕ) → afterStop (afterStart (afterWrite (fresh 45) 0x40 0x10 (b ∷ []))) ≡ record { image = blank 45; bus = entered atRest Rest 0x4010 }

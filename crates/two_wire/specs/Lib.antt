@@ -1,7 +1,9 @@
+pub mod Span
 pub mod Window
 pub mod Record
 pub mod Answer
 pub mod Gathered
-pub mod Step
+pub mod Event
 pub mod Run
 pub mod Examples
+pub mod Promises

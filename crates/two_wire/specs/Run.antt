@@ -2,9 +2,10 @@
 use mathlib.Core.List.{List, [], _∷_}
 use Prim.Native.Nat.{ℕ, zero, suc}
 use Rattle.two_wire.specs.Record.{gathers}
-use Rattle.two_wire.specs.Step.{start, stop, byteSent, byteReadAck, writeCode, readCode, after, does}
-use Rattle.two_wire.specs.declared.BusAnswer.{BusAnswer}
-use Rattle.two_wire.specs.declared.BusRecord.{BusRecord}
+use Rattle.two_wire.specs.Answer.{answerOf}
+use Rattle.two_wire.specs.Event.{start, stop, byteSent, byteReadAck, writeCode, readCode, after, does}
+use Rattle.two_wire.specs.declared.answer.BusAnswer.{BusAnswer}
+use Rattle.two_wire.specs.declared.record.BusRecord.{BusRecord}
 
 -- data bytes gathered one after the other
 unfoldable pub gathersAll : BusRecord → List ℕ → BusRecord
@@ -17,12 +18,12 @@ pub record Wires : Type 0 where
   pub bus : BusRecord
 
 unfoldable pub answerTo : Wires → ℕ → ℕ → BusAnswer
-answerTo w event b = does (w .image) (w .bus) event b .step .answer
+answerTo w event b = answerOf (does (w .image) (w .bus) event b .reply)
 
 unfoldable pub afterEvent : Wires → ℕ → ℕ → Wires
 afterEvent w event b =
     let o = does (w .image) (w .bus) event b in
-    record { image = after (w .image) (o .effect); bus = o .step .bus }
+    record { image = after (w .image) (o .effect); bus = o .bus }
 
 abbrev pub afterStart : Wires → Wires
 afterStart w = afterEvent w start 0

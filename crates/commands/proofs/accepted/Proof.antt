@@ -4,9 +4,6 @@ use Rattle.commands.proofs.Laws.{accepted-done}
 use Rattle.commands.proofs.accepted.Statement.{statement}
 use Rattle.commands.proofs.accepted.Tie as tie
 
-returns : tie.Need-returns
-returns c = search accepted-done
-
 pub accepted-spec : {M : Type 1} → statement M
 accepted-spec =
     tie.close
@@ -21,4 +18,4 @@ accepted-spec =
     (λ c κs. search needs)
     (λ c. search needs)
     (λ c. search needs)
-    returns)
+    (λ c. search accepted-done))

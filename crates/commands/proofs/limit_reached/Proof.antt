@@ -4,17 +4,11 @@ use Rattle.commands.proofs.Laws.{no-limit, limit-asked}
 use Rattle.commands.proofs.limit_reached.Statement.{statement}
 use Rattle.commands.proofs.limit_reached.Tie as tie
 
-returns : tie.Need-returns
-returns c = search no-limit
-
-returns-2 : tie.Need-returns-2
-returns-2 c = search limit-asked
-
 pub limit-reached-spec : {M : Type 1} → statement M
 limit-reached-spec =
     tie.close
     (tie.spec
     (λ c κs. search needs)
     (λ c κs. search needs)
-    returns
-    returns-2)
+    (λ c. search no-limit)
+    (λ c. search limit-asked))

@@ -3,9 +3,6 @@ use borrow.Author.Needs.{needs}
 use Rattle.commands.proofs.set_size_code.Statement.{statement}
 use Rattle.commands.proofs.set_size_code.Tie as tie
 
-returns : tie.Need-returns
-returns c = cc
-
 pub set-size-code-spec : {M : Type 1} → statement M
 set-size-code-spec =
     tie.close
@@ -13,4 +10,4 @@ set-size-code-spec =
     (λ c κs. search needs)
     (λ c. search needs)
     (λ c. search needs)
-    returns)
+    (λ c. cc))

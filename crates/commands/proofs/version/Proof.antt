@@ -4,9 +4,6 @@ use Rattle.commands.proofs.Laws.{version-done}
 use Rattle.commands.proofs.version.Statement.{statement}
 use Rattle.commands.proofs.version.Tie as tie
 
-returns : tie.Need-returns
-returns c = search version-done
-
 pub version-spec : {M : Type 1} → statement M
 version-spec =
     tie.close
@@ -16,4 +13,4 @@ version-spec =
     (λ c κs. search needs)
     (λ c κs. search needs)
     (λ c. search needs)
-    returns)
+    (λ c. search version-done))

@@ -1,6 +1,6 @@
 -- `corridor::play` meets its contract. Assumes nothing.
 use borrow.Author.Needs.{needs}
-use Rattle.corridor.specs.Held.{Within, Reads}
+use Rattle.corridor.specs.Session.{Within, Reads}
 use Rattle.corridor.proofs.play.Statement.{statement}
 use Rattle.corridor.proofs.play.Tie as tie
 

@@ -18,12 +18,6 @@ loop-holds : tie.Need-loop-holds Inv-loop μ-loop
 unfolding crcA start
 loop-holds c = (search needs, refl)
 
-loop-again : tie.Need-loop-again Inv-loop μ-loop
-loop-again c = (search needs, search byte-turn)
-
-returns : tie.Need-returns Inv-loop μ-loop
-returns c = search byte-end
-
 pub crc-a-spec : {M : Type 1} → statement M
 crc-a-spec =
     tie.close
@@ -35,5 +29,5 @@ crc-a-spec =
     (λ c κs. search needs)
     (λ c. search needs)
     (λ c. search needs)
-    loop-again
-    returns)
+    (λ c. (search needs, search byte-turn))
+    (λ c. search byte-end))

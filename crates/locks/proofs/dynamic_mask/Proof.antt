@@ -4,13 +4,10 @@ use Rattle.locks.proofs.Lock.{rows-open}
 use Rattle.locks.proofs.dynamic_mask.Statement.{statement}
 use Rattle.locks.proofs.dynamic_mask.Tie as tie
 
-returns : tie.Need-returns
-returns c = search rows-open
-
 pub dynamic-mask-spec : {M : Type 1} → statement M
 dynamic-mask-spec =
     tie.close
     (tie.spec
     (λ c κs. search needs)
     (λ c κs. search needs)
-    returns)
+    (λ c. search rows-open))

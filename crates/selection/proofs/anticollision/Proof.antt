@@ -4,17 +4,8 @@ use Rattle.selection.proofs.Laws.{match-answered, no-match, other-count
 use Rattle.selection.proofs.anticollision.Statement.{statement}
 use Rattle.selection.proofs.anticollision.Tie as tie
 
-plain-requires : tie.Need-plain-requires
-plain-requires c κs = (search needs, search others-fit, search needs)
-
-returns : tie.Need-returns
-returns c = search match-answered
-
 returns-2 : tie.Need-returns-2
 returns-2 c = no-match _ _ _ _ _ _ (c .before .before .before .before .before .before .before .pre .1) _ _ (c .before .before .before .before .if1 .taken) (c .before .before .before .sent .ensures) (c .before .before .power .ensures) (c .before .if2 .left) (c .lost .ensures) _
-
-returns-3 : tie.Need-returns-3
-returns-3 c = search other-count
 
 pub anticollision-spec : {M : Type 1} → statement M
 anticollision-spec =
@@ -26,10 +17,10 @@ anticollision-spec =
     (λ c. search needs)
     (λ c. search needs)
     (λ c. search needs)
-    plain-requires
+    (λ c κs. (search needs, search others-fit, search needs))
     (λ c κs. search needs)
     (λ c κs. search needs)
     (λ c. search needs)
-    returns
+    (λ c. search match-answered)
     returns-2
-    returns-3)
+    (λ c. search other-count))

@@ -4,13 +4,10 @@ use Rattle.selection.proofs.Laws.{arg-past}
 use Rattle.selection.proofs.arg.Statement.{statement}
 use Rattle.selection.proofs.arg.Tie as tie
 
-returns-2 : tie.Need-returns-2
-returns-2 c = search arg-past
-
 pub arg-spec : {M : Type 1} → statement M
 arg-spec =
     tie.close
     (tie.spec
     (λ c. search needs)
     (λ c. search needs)
-    returns-2)
+    (λ c. search arg-past))

@@ -6,9 +6,6 @@ use Rattle.selection.proofs.Laws.{asks-true}
 use Rattle.selection.proofs.known.Statement.{statement}
 use Rattle.selection.proofs.known.Tie as tie
 
-sub-result : tie.Need-sub-result
-sub-result c = let h = asks-true _ (c .pre) in omega arith
-
 returns : tie.Need-returns
 unfolding known
 returns c = let h = asks-true _ (c .pre) in omega arith
@@ -17,7 +14,7 @@ pub known-spec : {M : Type 1} → statement M
 known-spec =
     tie.close
     (tie.spec
-    sub-result
+    (λ c. let h = asks-true _ (c .pre) in omega arith)
     (λ c. search needs)
     (λ c. search needs)
     (λ c. search needs)

@@ -4,9 +4,6 @@ use Rattle.selection.proofs.Laws.{own1-read}
 use Rattle.selection.proofs.own1.Statement.{statement}
 use Rattle.selection.proofs.own1.Tie as tie
 
-returns : tie.Need-returns
-returns c = (search own1-read, search needs)
-
 pub own1-spec : {M : Type 1} → statement M
 own1-spec =
     tie.close
@@ -16,4 +13,4 @@ own1-spec =
     (λ c κs. search needs)
     (λ c κs. search needs)
     (λ c κs. search needs)
-    returns)
+    (λ c. (search own1-read, search needs)))

@@ -4,9 +4,6 @@ use Rattle.selection.proofs.Laws.{own2-read}
 use Rattle.selection.proofs.own2.Statement.{statement}
 use Rattle.selection.proofs.own2.Tie as tie
 
-returns : tie.Need-returns
-returns c = (search own2-read, search needs)
-
 pub own2-spec : {M : Type 1} → statement M
 own2-spec =
     tie.close
@@ -17,4 +14,4 @@ own2-spec =
     (λ c κs. search needs)
     (λ c κs. search needs)
     (λ c κs. search needs)
-    returns)
+    (λ c. (search own2-read, search needs)))

@@ -4,12 +4,9 @@ use Rattle.selection.proofs.Laws.{one-shifted}
 use Rattle.selection.proofs.power.Statement.{statement}
 use Rattle.selection.proofs.power.Tie as tie
 
-returns : tie.Need-returns
-returns c = search one-shifted
-
 pub power-spec : {M : Type 1} → statement M
 power-spec =
     tie.close
     (tie.spec
     (λ c. search needs)
-    returns)
+    (λ c. search one-shifted))

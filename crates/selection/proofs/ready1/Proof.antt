@@ -4,9 +4,6 @@ use Rattle.selection.proofs.Laws.{ready1-done}
 use Rattle.selection.proofs.ready1.Statement.{statement}
 use Rattle.selection.proofs.ready1.Tie as tie
 
-returns : tie.Need-returns
-returns c = λ img. search ready1-done
-
 pub ready1-spec : {M : Type 1} → statement M
 ready1-spec =
     tie.close
@@ -14,4 +11,4 @@ ready1-spec =
     (λ c κs. search needs)
     (λ c κs. search needs)
     (λ c. search needs)
-    returns)
+    (λ c. λ img. search ready1-done))

@@ -4,9 +4,6 @@ use Rattle.selection.proofs.Laws.{ready2-done}
 use Rattle.selection.proofs.ready2.Statement.{statement}
 use Rattle.selection.proofs.ready2.Tie as tie
 
-returns : tie.Need-returns
-returns c = λ img. search ready2-done
-
 pub ready2-spec : {M : Type 1} → statement M
 ready2-spec =
     tie.close
@@ -14,4 +11,4 @@ ready2-spec =
     (λ c κs. search needs)
     (λ c κs. search needs)
     (λ c. search needs)
-    returns)
+    (λ c. λ img. search ready2-done))

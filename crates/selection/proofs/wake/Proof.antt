@@ -4,9 +4,6 @@ use Rattle.selection.proofs.Laws.{wake-done}
 use Rattle.selection.proofs.wake.Statement.{statement}
 use Rattle.selection.proofs.wake.Tie as tie
 
-returns : tie.Need-returns
-returns c = search wake-done
-
 pub wake-spec : {M : Type 1} → statement M
 wake-spec =
     tie.close
@@ -15,4 +12,4 @@ wake-spec =
     (λ c κs. search needs)
     (λ c κs. search needs)
     (λ c. search needs)
-    returns)
+    (λ c. search wake-done))

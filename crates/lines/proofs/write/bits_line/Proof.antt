@@ -1,6 +1,6 @@
 -- `lines::write::bits_line` meets its contract. Assumes nothing.
 use borrow.Author.Needs.{needs}
-use Rattle.lines.proofs.Laying.{bits-line}
+use Rattle.laying.proofs.Laying.{line-laid, more-laid, last-laid}
 use Rattle.lines.proofs.write.bits_line.Statement.{statement}
 use Rattle.lines.proofs.write.bits_line.Tie as tie
 
@@ -15,6 +15,4 @@ bits-line-spec =
     (λ c κs. search needs)
     (λ c. search needs)
     (λ c κs. search needs)
-    (λ c. search needs)
-    (λ c κs. search needs)
-    (λ c. (search needs, search bits-line)))
+    (λ c. (search needs, search (line-laid, more-laid, last-laid))))

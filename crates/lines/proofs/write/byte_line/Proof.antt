@@ -1,6 +1,6 @@
 -- `lines::write::byte_line` meets its contract. Assumes nothing.
 use borrow.Author.Needs.{needs}
-use Rattle.lines.proofs.Laying.{byte-line}
+use Rattle.laying.proofs.Laying.{line-laid, more-laid, last-laid}
 use Rattle.lines.proofs.write.byte_line.Statement.{statement}
 use Rattle.lines.proofs.write.byte_line.Tie as tie
 
@@ -14,4 +14,4 @@ byte-line-spec =
     (λ c κs. search needs)
     (λ c. search needs)
     (λ c κs. search needs)
-    (λ c. (search needs, search byte-line)))
+    (λ c. (search needs, search (line-laid, more-laid, last-laid))))

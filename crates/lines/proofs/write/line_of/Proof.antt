@@ -1,7 +1,6 @@
 -- `lines::write::line_of` meets its contract. Assumes nothing.
 use borrow.Author.Needs.{needs}
-use Rattle.lines.proofs.Laying.{told-by}
-use Rattle.lines.proofs.Laws.{taken-fits, lent-fits, bits-fit, shown-fits}
+use Rattle.lines.proofs.Telling.{told-by, bits-fit, shown-fits}
 use Rattle.lines.proofs.write.line_of.Statement.{statement}
 use Rattle.lines.proofs.write.line_of.Tie as tie
 
@@ -11,10 +10,10 @@ line-of-spec =
     (tie.spec
     (λ c. search needs)
     (λ c. search needs)
-    (λ c κs. (search needs, search taken-fits))
+    (λ c κs. search needs)
     (λ c. search needs)
     (λ c. search needs)
-    (λ c κs. (search needs, search lent-fits))
+    (λ c κs. search needs)
     (λ c. search needs)
     (λ c. search needs)
     (λ c κs. search needs)

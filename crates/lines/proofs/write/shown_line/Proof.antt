@@ -1,6 +1,6 @@
 -- `lines::write::shown_line` meets its contract. Assumes nothing.
 use borrow.Author.Needs.{needs}
-use Rattle.lines.proofs.Laying.{shown-line, nothing-shown}
+use Rattle.laying.proofs.Laying.{line-laid, more-laid, last-laid}
 use Rattle.lines.proofs.write.shown_line.Statement.{statement}
 use Rattle.lines.proofs.write.shown_line.Tie as tie
 
@@ -10,10 +10,7 @@ shown-line-spec =
     (tie.spec
     (λ c. search needs)
     (λ c κs. search needs)
-    (λ c. (search needs, search nothing-shown))
-    (λ c. search needs)
-    (λ c κs. search needs)
     (λ c κs. search needs)
     (λ c. search needs)
     (λ c κs. search needs)
-    (λ c. (search needs, search shown-line)))
+    (λ c. (search needs, search (line-laid, more-laid, last-laid))))

@@ -1,0 +1,39 @@
+-- How the program holds a board: the image at the start of a buffer, and the rest in a session. Assumes nothing.
+use Prim.Native.Nat.{ℕ, _≤_}
+use mathlib.Core.Path.{_≡_}
+use mathlib.Core.List.{List}
+use lib.ListN.{take}
+use Rattle.lines.specs.Told.{tells, AnswerFits}
+use Rattle.corridor.specs.Played.{Board, Played, answerTo, boardAfter}
+use Rattle.corridor.specs.declared.session.Session.{Session}
+use Rattle.corridor.specs.declared.session.Acted.{Acted}
+use Rattle.corridor.specs.declared.session.Responded.{Responded}
+use Rattle.corridor.specs.declared.input.Input.{Input}
+
+abbrev pub boardOf : Session → List ℕ → Board
+boardOf s img = record { image = take (s .size) img; lent = s .lent; tag = s .tag; bus = s .bus }
+
+-- image and answer buffer have room for 1,024 bytes
+pub record Within (s : Session) : Type 0 where
+  pub size : s .size ≤ 1024
+  pub lent : s .lent ≤ 1024
+
+-- A command was carried out: img and buf are the image's buffer and the answer buffer behind it.
+pub record Acts (p : Played) (r : Acted) (img buf : List ℕ) : Type 0 where
+  pub within : Within (r .session)
+  pub fits : AnswerFits (r .told)
+  pub board : boardOf (r .session) img ≡ p .board
+  pub told : tells (r .told) buf img ≡ p .told
+
+-- A line was answered: img and out are the image's buffer and the buffer of answers behind it.
+pub record Answers (b : Board) (line : List ℕ) (r : Responded) (img out : List ℕ) : Type 0 where
+  pub within : Within (r .session)
+  pub room : r .length ≤ 2080
+  pub board : boardOf (r .session) img ≡ boardAfter b line
+  pub text : take (r .length) out ≡ answerTo b line
+
+-- the input's places lie within its buffers
+pub record Reads (i : Input) : Type 0 where
+  pub at : i .at ≤ i .end
+  pub end : i .end ≤ 4096
+  pub len : i .len ≤ 16398

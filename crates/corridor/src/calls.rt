@@ -1,0 +1,92 @@
+// The calls to the tag, on the parts of the program's buffers that they are lent, and what their outcomes tell.
+use lines::write::Answer;
+use tag::record::TagRecord;
+use two_wire::BusAnswer;
+use two_wire::BusRecord;
+use two_wire::BusStep;
+ghost use mathlib.Core.Path.{_≡_};
+ghost use mathlib.Core.List.{List};
+ghost use Prim.Native.Nat.{ℕ, _≤_};
+ghost use lib.ListN.{length, take};
+ghost use Rattle.tag.specs.Outcome.{bitsOf, answerOf};
+ghost use Rattle.radio.specs.Call.{Called, called, Met};
+ghost use Rattle.two_wire.specs.declared.record.BusRecord.{BusRecord as Bus};
+ghost use Rattle.two_wire.specs.Event.{does, Did};
+ghost use Rattle.lines.specs.Told.{tells, bytesIn, AnswerFits};
+ghost use Rattle.corridor.specs.Played.{callTold, eventTold};
+
+// The frame call on the first `size` bytes of `image`, the first `lent` of `answer` and the first `count` of `bytes`.
+pub fn call_frame(
+    image: &mut [u8],
+    size: usize,
+    answer: &mut [u8],
+    lent: usize,
+    tag: TagRecord,
+    bytes: &[u8],
+    count: usize,
+    bits: usize,
+    good: bool,
+) -> radio::Answer
+    requires { ⌜ (size ≤ length (now image)) × (lent ≤ length (now answer)) × (count ≤ length (now bytes)) ⌝ }
+    ensures { λ r. ⌜ Met (called (take size (now (image .entry))) lent tag (take count (now (bytes .entry))) bits good) r (take size (now (image .entry))) (take size (now (image .exit))) (take lent (now (answer .entry))) (take lent (now (answer .exit))) ⌝ }
+{
+    radio::frame(
+        &mut image[0..size],
+        &mut answer[0..lent],
+        tag,
+        &bytes[0..count],
+        bits,
+        good,
+    )
+}
+
+// What a frame is answered by: a refusal, silence, or bits.
+pub fn frame_told(refused: u8, bits: usize) -> Answer
+    requires { ⌜ bits ≤ 8192 ⌝ }
+    ensures { λ r. ⌜ AnswerFits r ⌝ }
+    ensures { λ r. ⌜ ((c : Called) (buf img : List ℕ) → refused ≡ c .refused → bits ≡ bitsOf (c .reply) → take (bytesIn bits) buf ≡ answerOf (c .reply) → tells r buf img ≡ callTold c) ⌝ }
+{
+    if refused != 0 {
+        return Answer::Refused(refused);
+    }
+    if bits == 0 {
+        return Answer::Silence;
+    }
+    Answer::Bits(bits)
+}
+
+// The bus event on the first `size` bytes of `image`.
+pub fn call_step(image: &mut [u8], size: usize, bus: BusRecord, number: u8, byte: u8) -> BusStep
+    requires { ⌜ size ≤ length (now image) ⌝ }
+    ensures { λ r. ⌜ Did (does (take size (now (image .entry))) bus number byte) r (take size (now (image .entry))) (take size (now (image .exit))) ⌝ }
+{
+    two_wire::step(&mut image[0..size], bus, number, byte)
+}
+
+// A number that is no u8 is no event either, and 255 stands for it.
+pub fn event_number(number: usize) -> u8
+    ensures { λ r. ⌜ ((img : List ℕ) (bus : Bus) (byte : ℕ) → does img bus r byte ≡ does img bus number byte) ⌝ }
+{
+    if number < 255 { number as u8 } else { 255 }
+}
+
+// What an event is answered by.
+pub fn event_told(answer: BusAnswer) -> Answer
+    ensures { λ r. ⌜ AnswerFits r ⌝ }
+    ensures { λ r. ⌜ ((buf img : List ℕ) → tells r buf img ≡ eventTold answer) ⌝ }
+{
+    let value = answer.value;
+    if answer.refused != 0 {
+        return Answer::Refused(answer.refused);
+    }
+    if answer.kind == 0 {
+        return Answer::Done;
+    }
+    if answer.kind != 1 {
+        return Answer::Byte(value);
+    }
+    if value == 0 {
+        return Answer::Declined;
+    }
+    Answer::Acknowledged
+}

@@ -1,0 +1,55 @@
+-- An answer as a list of parts, and what laying them into a buffer does. Assumes nothing.
+use Prim.Native.Nat.{ℕ, zero, suc, _+_, _/_, _%_}
+use mathlib.Core.Path.{_≡_}
+use mathlib.Core.Bool.{cond}
+use mathlib.Core.List.{List, [], _∷_, _++_}
+use lib.Dec.{ltb}
+use lib.ListN.{take}
+
+-- "Numbers are decimal": as few digits as it has, of at most `most`
+abbrev pub decimalIn : ℕ → ℕ → List ℕ
+decimalIn zero n = []
+decimalIn (suc most) n = cond (ltb n 10) ((48 + n) ∷ []) (decimalIn most (n / 10) ++ ((48 + n % 10) ∷ []))
+
+unfoldable pub decimal : ℕ → List ℕ
+decimal n = decimalIn 20 n
+
+-- "capitals out": the hex digit of a number below 16
+abbrev pub hexChar : ℕ → ℕ
+hexChar n = cond (ltb n 10) (n + 48) (n + 55)
+
+-- bytes as pairs of hex digits
+abbrev pub hexOf : List ℕ → List ℕ
+hexOf [] = []
+hexOf (b ∷ r) = hexChar (b / 16) ∷ hexChar (b % 16) ∷ hexOf r
+
+-- "`image` alone where it is empty": the space, which is 32, goes with the bytes
+abbrev pub tailOf : List ℕ → List ℕ
+tailOf [] = []
+tailOf (b ∷ r) = 32 ∷ hexOf (b ∷ r)
+
+-- fixed words; a number; bytes in hex; bytes in hex behind a space, or nothing
+pub data Part : Type 0 where
+  word : List ℕ → Part
+  number : ℕ → Part
+  hex : List ℕ → Part
+  tail : List ℕ → Part
+
+abbrev pub partText : Part → List ℕ
+partText (word l) = l
+partText (number n) = decimal n
+partText (hex bs) = hexOf bs
+partText (tail bs) = tailOf bs
+
+-- a line: its parts, and the line's end, which is 10
+abbrev pub lineText : List Part → List ℕ
+lineText [] = 10 ∷ []
+lineText (p ∷ ps) = partText p ++ lineText ps
+
+-- a part was laid at `at`, up to r: what stood before it stays
+pub record Laid (p : Part) (at r : ℕ) (before after : List ℕ) : Type 0 where
+  pub front : take r after ≡ take at before ++ partText p
+
+-- "exactly one line for each": the first r bytes of a buffer are the line of these parts
+pub record Line (ps : List Part) (r : ℕ) (out : List ℕ) : Type 0 where
+  pub whole : take r out ≡ lineText ps

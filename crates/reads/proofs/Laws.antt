@@ -1,0 +1,161 @@
+-- Pages laid into the answer, and what each way through READ and FAST_READ shows. Assumes nothing.
+use mathlib.Core.Path.{_≡_, sym, ap, _∙_}
+use mathlib.Core.List.{List, [], _∷_}
+use mathlib.Core.Bool.{Bool, true, false}
+use Prim.Native.Nat.{ℕ, suc, _+_, _-_, _*_, _/_, _%_, _≤_, _<_}
+use native.Mathlib.Nat.{add-zero, mod-add-mod, mod-eq-of-lt, mod-self}
+use native.Mathlib.Omega.{arith}
+use lib.ListN.{length, set}
+use lib.Seq.{sets, length-sets}
+use borrow.Author.Tests.{lt-ltb, le-ltb, le-leb, lt-leb}
+use Rattle.image.specs.declared.layout.Four.{Four}
+use Rattle.image.specs.Layout.{Fits, pageAt, bytesOf, store}
+use Rattle.image.specs.Settings.{auth0, prot, counterOn}
+use Rattle.image.specs.Shown.{shownPage}
+use Rattle.image.proofs.Stored.{fits-store}
+use Rattle.image.specs.Tail.{counted}
+use Rattle.tag.specs.declared.state.Tag.{Tag}
+use Rattle.tag.specs.declared.outcome.Step.{Step}
+use Rattle.tag.specs.State.{authenticated, answering}
+use Rattle.tag.specs.Outcome.{over, apply, Did, Says}
+use Rattle.tag.proofs.Laws.{length-build, laid, laid-suc, Naks, said}
+use Rattle.reads.specs.Read.{bound, seen, seenPage, pageByte, pagesFrom, counting, readAnswered, read, fastRead}
+
+-- ---- a list that is built into the front of a buffer
+
+-- four more of them
+laid-four : (f : ℕ → ℕ) (k v0 v1 v2 v3 : ℕ) (d : List ℕ) → k + 4 ≤ length d → v0 ≡ f k → v1 ≡ f (suc k) → v2 ≡ f (suc (suc k)) → v3 ≡ f (suc (suc (suc k)))
+    → sets (laid f k d) k (v0 ∷ v1 ∷ v2 ∷ v3 ∷ []) ≡ laid f (suc (suc (suc (suc k)))) d
+laid-four f k v0 v1 v2 v3 d l e0 e1 e2 e3 =
+    rw (e0, e1, e2, e3)
+    (ap (λ (t : List ℕ). set (set (set t (suc k) (f (suc k))) (suc (suc k)) (f (suc (suc k)))) (suc (suc (suc k))) (f (suc (suc (suc k))))) (laid-suc f k d (omega arith))
+    ∙ ap (λ (t : List ℕ). set (set t (suc (suc k)) (f (suc (suc k)))) (suc (suc (suc k))) (f (suc (suc (suc k))))) (laid-suc f (suc k) d (omega arith))
+    ∙ ap (λ (t : List ℕ). set t (suc (suc (suc k))) (f (suc (suc (suc k))))) (laid-suc f (suc (suc k)) d (omega arith))
+    ∙ laid-suc f (suc (suc (suc k))) d (omega arith))
+
+-- ---- the loop over pages
+
+pub page-after : (b page x : ℕ) → page + 1 < b → page ≡ x % b → page + 1 ≡ (x + 1) % b
+page-after b page x l e = sym (sym (mod-add-mod x b 1) ∙ ap (λ (y : ℕ). (y + 1) % b) (sym e) ∙ mod-eq-of-lt l)
+
+pub page-round : (b page x : ℕ) → page < b → b ≤ page + 1 → page ≡ x % b → 0 ≡ (x + 1) % b
+page-round b page x l m e =
+    let q : page + 1 ≡ b = omega arith in
+    sym (sym (mod-add-mod x b 1) ∙ ap (λ (y : ℕ). (y + 1) % b) (sym e) ∙ ap (λ (y : ℕ). y % b) q ∙ mod-self b)
+
+pub page-first : (b first : ℕ) → first < b → first ≡ (first + 0) % b
+page-first b first l = rw (add-zero) (sym (mod-eq-of-lt l))
+
+pub page-next : (b page next first i : ℕ) → page ≡ (first + i) % b → ((x : ℕ) → page ≡ x % b → next ≡ (x + 1) % b) × (next < b) → next ≡ (first + (i + 1)) % b
+page-next b page next first i e h = let q : first + (i + 1) ≡ first + i + 1 = omega arith in rw q (h .0 (first + i) e)
+
+pub pages-length : (answer after d vs : List ℕ) (at : ℕ) → length answer ≡ length d → after ≡ sets answer at vs → length after ≡ length d
+pages-length answer after d vs at e h = rw h (length-sets answer at vs ∙ e)
+
+module _ (n first b : ℕ) (img : List ℕ) (t : Tag) where
+  -- byte k of the i-th page
+  page-byte : (i j k page : ℕ) → j / 4 ≡ i → j % 4 ≡ k → page ≡ (first + i) % b → seen n img t page k ≡ pageByte n img t first b j
+  unfolding pageByte
+  page-byte i j k page e f g = rw (e, f, g)
+
+  -- a turn of the loop
+  pub pages-turn : (i page count : ℕ) (answer after d : List ℕ) → i < count → count ≤ 231 → 1024 ≤ length d → page ≡ (first + i) % b → answer ≡ laid (pageByte n img t first b) (4 * i) d
+      → after ≡ sets answer (4 * i) (bytesOf (seenPage n img t page)) → after ≡ laid (pageByte n img t first b) (4 * (i + 1)) d
+  unfolding bytesOf seenPage
+  pages-turn i page count answer after d l m room e f g =
+      let q : 4 * (i + 1) ≡ suc (suc (suc (suc (4 * i)))) = omega arith in
+      rw (g, f, q)
+      (laid-four (pageByte n img t first b) (4 * i) (seen n img t page 0) (seen n img t page 1) (seen n img t page 2) (seen n img t page 3) d (omega arith)
+      (page-byte i (4 * i) 0 page (omega arith) (omega arith) e)
+      (page-byte i (suc (4 * i)) 1 page (omega arith) (omega arith) e)
+      (page-byte i (suc (suc (4 * i))) 2 page (omega arith) (omega arith) e)
+      (page-byte i (suc (suc (suc (4 * i)))) 3 page (omega arith) (omega arith) e))
+
+  pub pages-end : (i count : ℕ) (answer d : List ℕ) → i ≤ count → count ≤ i → answer ≡ laid (pageByte n img t first b) (4 * i) d → answer ≡ over (pagesFrom n img t first b count) d
+  unfolding over pagesFrom
+  pages-end i count answer d l m e =
+      let q : i ≡ count = omega arith in
+      rw (length-build (pageByte n img t first b) (4 * count)) (e ∙ ap (λ (k : ℕ). laid (pageByte n img t first b) (4 * k) d) q)
+
+pub length-pages : (n first b count : ℕ) (img : List ℕ) (t : Tag) → length (pagesFrom n img t first b count) ≡ 4 * count
+unfolding pagesFrom
+length-pages n first b count img t = length-build (pageByte n img t first b) (4 * count)
+
+-- ---- B
+
+module _ (n : ℕ) (img : List ℕ) (t : Tag) where
+  pub bound-open : (p : Bool) → p ≡ prot n img → p ≡ false → n ≡ bound n img t
+  unfolding bound
+  bound-open p e f = simp (← e, f)
+
+  pub bound-granted : (p a : Bool) → p ≡ prot n img → p ≡ true → a ≡ authenticated t → a ≡ true → n ≡ bound n img t
+  unfolding bound
+  bound-granted p a e f g h = simp (← e, f, ← g, h)
+
+  module _ (p a : Bool) (x first : ℕ) (e : p ≡ prot n img) (f : p ≡ true) (g : a ≡ authenticated t) (h : a ≡ false) (q : x ≡ auth0 n img) (w : (first ≡ x) × (first < 256)) where
+    pub bound-low : first < n → first ≡ bound n img t
+    unfolding bound
+    bound-low l = simp (← e, f, ← g, h, ← q, ← w .0, lt-ltb _ _ l)
+
+    pub bound-high : n ≤ first → n ≡ bound n img t
+    unfolding bound
+    bound-high l = simp (← e, f, ← g, h, ← q, ← w .0, le-ltb _ _ l)
+
+-- ---- the counter
+
+module _ (n : ℕ) (img : List ℕ) (t : Tag) where
+  pub count-again : t .answered ≡ true → img ≡ apply img (counting n img t)
+  unfolding counting apply
+  count-again p = simp p
+
+  pub count-off : (b : Bool) → t .answered ≡ false → b ≡ counterOn n img → b ≡ false → img ≡ apply img (counting n img t)
+  unfolding counting apply
+  count-off b p e f = simp (p, ← e, f)
+
+  pub count-on : (b : Bool) (image′ : List ℕ) → t .answered ≡ false → b ≡ counterOn n img → b ≡ true → image′ ≡ store img n (counted (pageAt img n)) → image′ ≡ apply img (counting n img t)
+  unfolding counting apply
+  count-on b image′ p e f h = simp (p, ← e, f) h
+
+-- the image still fits
+pub count-fits : (n : ℕ) (img image′ : List ℕ) (v : Four) → Fits n img → image′ ≡ store img n v → Fits n image′
+count-fits n img image′ v fit e = rw e (fits-store n img n v fit)
+
+-- ---- READ and FAST_READ
+
+pub page-laid : (answer after : List ℕ) (at : ℕ) (v w : Four) → v ≡ w → after ≡ sets answer at (bytesOf v) → after ≡ sets answer at (bytesOf w)
+page-laid answer after at v w e h = rw e at h
+
+pub seen-shown : (n page : ℕ) (img : List ℕ) (t : Tag) (v : Four) → v ≡ shownPage n img page → v ≡ seenPage n img t page
+unfolding seenPage seen shownPage
+seen-shown n page img t v e = e
+
+module _ (n : ℕ) (img : List ℕ) (t : Tag) where
+  pub given : (first b count : ℕ) (t′ : Tag) (r : Step) (image′ before mid after : List ℕ) → (t′ ≡ answering t) × (image′ ≡ apply img (counting n img t))
+      → mid ≡ over (pagesFrom n image′ t first b count) before → Says (4 * count) t′ r mid after → Did (readAnswered n img t first b count) r img image′ before after
+  unfolding readAnswered
+  given first b count t′ r image′ before mid after c em s =
+      said (pagesFrom n (apply img (counting n img t)) t first b count) (counting n img t) (answering t) r (4 * count) img image′ before mid after
+      (length-pages n first b count (apply img (counting n img t)) t) (rw (c .1) at em) (rw (c .0) at s) (c .1)
+
+  module _ (b : ℕ) (r : Step) (image′ before after : List ℕ) (eb : (b ≡ bound n img t) × (b ≤ n)) where
+    pub read-data : (a x : ℕ) → (a ≡ x) × (a < 256) → a < b → Did (readAnswered n img t a b 4) r img image′ before after → Did (read n img t x) r img image′ before after
+    unfolding read
+    read-data a x w l d = rw (← eb .0, ← w .0, lt-ltb a b l) d
+
+    pub fast-data : (s e x y : ℕ) → (s ≡ x) × (s < 256) → (e ≡ y) × (e < 256) → s ≤ e → e < b → Did (readAnswered n img t s b (e + 1 - s)) r img image′ before after
+        → Did (fastRead n img t x y) r img image′ before after
+    unfolding fastRead
+    fast-data s e x y w v l m d = rw (← eb .0, ← w .0, ← v .0, le-leb s e l, lt-ltb e b m) d
+
+module _ (n : ℕ) (img : List ℕ) (t : Tag) (b : ℕ) (r : Step) (before after : List ℕ) (naks : Naks t 0 r before after) where
+  pub read-nak : (a x : ℕ) → (b ≡ bound n img t) × (b ≤ n) → (a ≡ x) × (a < 256) → b ≤ a → Did (read n img t x) r img img before after
+  unfolding read
+  read-nak a x eb w l = rw (← eb .0, ← w .0, le-ltb a b l) (naks img)
+
+  pub fast-back : (s e x y : ℕ) → (s ≡ x) × (s < 256) → (e ≡ y) × (e < 256) → e < s → Did (fastRead n img t x y) r img img before after
+  unfolding fastRead
+  fast-back s e x y w v l = rw (← w .0, ← v .0, lt-leb s e l) (naks img)
+
+  pub fast-far : (s e x y : ℕ) → (b ≡ bound n img t) × (b ≤ n) → (s ≡ x) × (s < 256) → (e ≡ y) × (e < 256) → s ≤ e → b ≤ e → Did (fastRead n img t x y) r img img before after
+  unfolding fastRead
+  fast-far s e x y eb w v l m = rw (← eb .0, ← w .0, ← v .0, le-leb s e l, le-ltb e b m) (naks img)

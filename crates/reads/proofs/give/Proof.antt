@@ -1,0 +1,17 @@
+-- `reads::give` meets its contract. Assumes nothing.
+use borrow.Author.Needs.{needs}
+use Rattle.reads.proofs.Laws.{given}
+use Rattle.reads.proofs.give.Statement.{statement}
+use Rattle.reads.proofs.give.Tie as tie
+
+pub give-spec : {M : Type 1} → statement M
+give-spec =
+    tie.close
+    (tie.spec
+    (λ c κs. search needs)
+    (λ c κs. search needs)
+    (λ c. search needs)
+    (λ c κs. search needs)
+    (λ c. search needs)
+    (λ c. search needs)
+    (λ c. search given))
