@@ -18,8 +18,8 @@ bound n img t = cond (prot n img && (not (authenticated t) && ltb (auth0 n img) 
 
 -- ---- READ and FAST_READ
 
--- what a reader sees of byte k of page p, which may go by the tag, where the two wires do not: "READ shows stored bytes"; "PWD and PACK
--- pages always read as zeros."
+-- "READ shows stored bytes"; "PWD and PACK pages always read as zeros.": what READ and FAST_READ show of byte k of page p, on a tag in this
+-- state. The two wires don't go through here.
 unfoldable pub seen : ℕ → List ℕ → Tag → ℕ → ℕ → ℕ
 seen n img t p k = shown n img p k
 
