@@ -7,7 +7,3 @@ use Rattle.image.specs.declared.layout.Size.the-variants.{Pages, Unknown}
 abbrev pub pagesOf : Size → ℕ
 pagesOf (Pages n) = n
 pagesOf Unknown = 0
-
--- "2: frame call: answer buffer under 1,024 bytes"
-abbrev pub answerRoom : ℕ
-answerRoom = 1024

@@ -2,16 +2,18 @@
 // contract. `corridor_bus_event` stands in two_wire, where it is proved.
 use image::layout::Size;
 use radio::Answer;
+use tag::outcome::ANSWER_ROOM;
 use tag::record::TagRecord;
 use two_wire::BusRecord;
 ghost use mathlib.Core.Path.{_≡_};
 ghost use lib.ListN.{length};
 ghost use Rattle.image.specs.Layout.{sizeOf};
 ghost use Rattle.tag.specs.State.{fieldOff};
+ghost use Rattle.tag.specs.Outcome.{answerRoom};
 ghost use Rattle.tag.specs.Record.{recordOf, fieldLoss};
 ghost use Rattle.radio.specs.Call.{called, Met};
 ghost use Rattle.two_wire.specs.Record.{atRest};
-ghost use Rattle.board.specs.Board.{pagesOf, answerRoom};
+ghost use Rattle.board.specs.Board.{pagesOf};
 
 // The record to begin with.
 #[no_mangle]
@@ -69,5 +71,5 @@ pub extern "C" fn corridor_pages(bytes: usize) -> usize
 pub extern "C" fn corridor_answer_room() -> usize
     ensures { λ r. ⌜ r ≡ answerRoom ⌝ }
 {
-    1024
+    ANSWER_ROOM
 }

@@ -16,7 +16,7 @@ ghost use Prim.Native.Nat.{ℕ, _+_, _≤_, _<_};
 ghost use lib.ListN.{length, set};
 ghost use Rattle.image.specs.Layout.{Fits};
 ghost use Rattle.image.specs.Write.{locked};
-ghost use Rattle.tag.specs.Outcome.{apply, Did, Room};
+ghost use Rattle.tag.specs.Outcome.{apply, answerRoom, Did, Room};
 ghost use Rattle.commands.specs.Commands.{underPassword, refuses, write, sizeCode, version, readCount, limitReached, same, wrongCounted, accepted, rejected, pwdAuth, hlta};
 
 // Whether a page is under password.
@@ -89,7 +89,7 @@ fn set_size_code(answer: &mut [u8], n: usize)
 }
 
 pub fn version(answer: &mut [u8], n: usize, tag: Tag) -> Step
-    requires { ⌜ 1024 ≤ length (now answer) ⌝ }
+    requires { ⌜ answerRoom ≤ length (now answer) ⌝ }
     ensures { λ r. ⌜ ((img : List ℕ) → Did (version n tag) r img img (now (answer .entry)) (now (answer .exit))) ⌝ }
 {
     lay(answer, b"\x00\x1D\x04\x01\x01\x00\x00\x03");
@@ -189,7 +189,7 @@ pub fn pwd_auth(image: &mut [u8], answer: &mut [u8], n: usize, tag: Tag, p: Four
 }
 
 pub fn hlta(answer: &mut [u8], tag: Tag, x: u8) -> Step
-    requires { ⌜ 1024 ≤ length (now answer) ⌝ }
+    requires { ⌜ answerRoom ≤ length (now answer) ⌝ }
     ensures { λ r. ⌜ ((img : List ℕ) → Did (hlta tag x) r img img (now (answer .entry)) (now (answer .exit))) ⌝ }
 {
     if x == 0x00 {

@@ -1,4 +1,5 @@
 pub mod Demand
 pub mod Computes
 pub mod Examples
+pub mod Records
 pub mod Caught

@@ -1,3 +1,4 @@
 pub mod Demand
 pub mod Table
+pub mod Records
 pub mod Wrong

@@ -16,7 +16,7 @@ use Rattle.image.proofs.Laws as image
 use Rattle.tag.specs.declared.state.State.{State}
 use Rattle.tag.specs.declared.state.Tag.{Tag}
 use Rattle.tag.specs.declared.outcome.Step.{Step}
-use Rattle.tag.specs.Outcome.{bitsOf, answerOf, over, apply, Did}
+use Rattle.tag.specs.Outcome.{bitsOf, answerOf, over, apply, Did, answerRoom}
 use Rattle.tag.proofs.Laws.{answer-bytes}
 use Rattle.basics.proofs.Choice.{and-left, and-right}
 use Rattle.tag.specs.Record.{tagOf, recordOf}
@@ -100,22 +100,22 @@ unfolding over
 answer-fits a before after e l = omega (arith, ap length e, length-append a (drop (length a) before))
 
 module _ (n : ℕ) (img : List ℕ) (rec : TagRecord) (f : List ℕ) (bits : ℕ) (parity : Bool) (before : List ℕ) where
-  pub call-narrow : (r : Answer) → length before < 1024 → Refused 2 rec r → Met (calledAt (Pages n) img (length before) rec f bits parity) r img img before before
+  pub call-narrow : (r : Answer) → length before < answerRoom → Refused 2 rec r → Met (calledAt (Pages n) img (length before) rec f bits parity) r img img before before
   unfolding calledAt
-  call-narrow r l h = rw (lt-leb 1024 (length before) l) (h img before)
+  call-narrow r l h = rw (lt-leb answerRoom (length before) l) (h img before)
 
-  pub call-unframed : (r : Answer) (b : Bool) → 1024 ≤ length before → b ≡ isFrame f bits → b ≡ false → Refused 3 rec r
+  pub call-unframed : (r : Answer) (b : Bool) → answerRoom ≤ length before → b ≡ isFrame f bits → b ≡ false → Refused 3 rec r
       → Met (calledAt (Pages n) img (length before) rec f bits parity) r img img before before
   unfolding calledAt
-  call-unframed r b l e g h = rw (le-leb 1024 (length before) l, ← e, g) (h img before)
+  call-unframed r b l e g h = rw (le-leb answerRoom (length before) l, ← e, g) (h img before)
 
-  pub call-done : (b : Bool) (t : Tag) (step : Step) (left : TagRecord) (image′ after : List ℕ) → 1024 ≤ length before → b ≡ isFrame f bits → b ≡ true → t ≡ tagOf rec
+  pub call-done : (b : Bool) (t : Tag) (step : Step) (left : TagRecord) (image′ after : List ℕ) → answerRoom ≤ length before → b ≡ isFrame f bits → b ≡ true → t ≡ tagOf rec
       → Did (heard n img t f bits parity) step img image′ before after → left ≡ recordOf (step .tag) → length after ≡ length before
       → Met (calledAt (Pages n) img (length before) rec f bits parity) (record { refused = 0; bits = step .bits; left = left }) img image′ before after
   unfolding calledAt taken
   call-done b t step left image′ after l e g q d w k =
       let o = heard n img t f bits parity .reply in
-      rw (le-leb 1024 (length before) l, ← e, g, ← q)
+      rw (le-leb answerRoom (length before) l, ← e, g, ← q)
       (record {
         refused = refl;
         bits = d .bits;

@@ -14,7 +14,7 @@ use Rattle.tag.specs.declared.state.Wait.the-variants.{ToIdle}
 use Rattle.tag.specs.declared.state.State.the-variants.{Ready1, Ready2, Active}
 use Rattle.tag.specs.declared.state.Tag.{Tag}
 use Rattle.tag.specs.State.{fieldOff, moved, selected}
-use Rattle.tag.specs.Outcome.{plain, keep, does, says}
+use Rattle.tag.specs.Outcome.{plain, keep, does, says, answerRoom}
 use Rattle.selection.specs.Selection.{isReqa, isWupa, wakes, inIdle, forty, own1, own2, sent, select, inReady, inReady1, inReady2}
 use Rattle.tag.specs.Record.{recordOf, fieldLoss}
 use Rattle.radio.specs.Heard.{heard}
@@ -46,11 +46,11 @@ ready2 = record { state = Ready2 ToIdle; answered = false }
 active : Tag
 active = record { state = Active ToIdle false; answered = false }
 
-module _ (n room : ℕ) (img : List ℕ) (r : TagRecord) (size : sizeOf (length img) ≡ Pages n) (enough : 1024 ≤ room) where
+module _ (n room : ℕ) (img : List ℕ) (r : TagRecord) (size : sizeOf (length img) ≡ Pages n) (enough : answerRoom ≤ room) where
   -- a call that isn't refused, on a record that was written
   heard-call : (t : Tag) (f : List ℕ) (bits : ℕ) (parity : Bool) → isFrame f bits ≡ true → called img room (recordOf t) f bits parity ≡ taken (heard n img t f bits parity)
   unfolding called calledAt
-  heard-call t f bits parity e = rw (size, le-leb 1024 room enough, e, read-again t)
+  heard-call t f bits parity e = rw (size, le-leb answerRoom room enough, e, read-again t)
 
   woken-up : first img room r ≡ taken (does (plain 16 0x0044) keep ready1)
   unfolding first fieldLoss fieldOff wupa heard inIdle isReqa isWupa wakes moved isFrame padded ready1

@@ -8,7 +8,7 @@ use lib.ListN.{length}
 use Rattle.image.specs.declared.layout.Size.{Size}
 use Rattle.image.specs.declared.layout.Size.the-variants.{Pages, Unknown}
 use Rattle.image.specs.Layout.{sizeOf}
-use Rattle.tag.specs.Outcome.{arg, Reply, silence, bitsOf, answerOf, over, Effect, keep, apply, Does}
+use Rattle.tag.specs.Outcome.{arg, Reply, silence, bitsOf, answerOf, over, Effect, keep, apply, Does, answerRoom}
 use Rattle.tag.specs.Record.{tagOf, recordOf}
 use Rattle.tag.specs.declared.record.TagRecord.{TagRecord}
 use Rattle.radio.specs.Heard.{heard}
@@ -40,7 +40,7 @@ taken d = record { refused = 0; reply = d .reply; effect = d .effect; left = rec
 unfoldable pub calledAt : Size → List ℕ → ℕ → TagRecord → List ℕ → ℕ → Bool → Called
 calledAt Unknown img room r f bits parity = refusal 1 r
 calledAt (Pages n) img room r f bits parity =
-    cond (leb 1024 room) (cond (isFrame f bits) (taken (heard n img (tagOf r) f bits parity)) (refusal 3 r)) (refusal 2 r)
+    cond (leb answerRoom room) (cond (isFrame f bits) (taken (heard n img (tagOf r) f bits parity)) (refusal 3 r)) (refusal 2 r)
 
 -- "1: image length isn't 184, 544 or 928"; "Tested in this order."
 unfoldable pub called : List ℕ → ℕ → TagRecord → List ℕ → ℕ → Bool → Called

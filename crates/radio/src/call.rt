@@ -1,6 +1,7 @@
 // The calls of the radio side: a frame, the field loss, and the record to begin with.
 use crate::hear::hear;
 use image::layout::Size;
+use tag::outcome::ANSWER_ROOM;
 use tag::record::TagRecord;
 use tag::record::record_of;
 use tag::record::tag_of;
@@ -95,7 +96,7 @@ fn frame_at(
     requires { ⌜ Fits n (now image) ⌝ }
     ensures { λ r. ⌜ Met (calledAt (Pages n) (now (image .entry)) (length (now (answer .entry))) rec (now (frame .entry)) bits parity) r (now (image .entry)) (now (image .exit)) (now (answer .entry)) (now (answer .exit)) ⌝ }
 {
-    if answer.len() < 1024 {
+    if answer.len() < ANSWER_ROOM {
         return refuse(2, rec);
     }
     if is_frame(frame, bits) {

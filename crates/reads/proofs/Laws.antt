@@ -17,7 +17,7 @@ use Rattle.image.specs.Tail.{counted}
 use Rattle.tag.specs.declared.state.Tag.{Tag}
 use Rattle.tag.specs.declared.outcome.Step.{Step}
 use Rattle.tag.specs.State.{authenticated, answering}
-use Rattle.tag.specs.Outcome.{over, apply, Did, Says}
+use Rattle.tag.specs.Outcome.{over, apply, Did, Says, answerRoom}
 use Rattle.tag.proofs.Laws.{length-build, laid, laid-suc, Naks, said}
 use Rattle.reads.specs.Read.{bound, seen, seenPage, pageByte, pagesFrom, counting, readAnswered, read, fastRead}
 
@@ -59,7 +59,7 @@ module _ (n first b : ℕ) (img : List ℕ) (t : Tag) where
   page-byte i j k page e f g = rw (e, f, g)
 
   -- a turn of the loop
-  pub pages-turn : (i page count : ℕ) (answer after d : List ℕ) → i < count → count ≤ 231 → 1024 ≤ length d → page ≡ (first + i) % b → answer ≡ laid (pageByte n img t first b) (4 * i) d
+  pub pages-turn : (i page count : ℕ) (answer after d : List ℕ) → i < count → count ≤ 231 → answerRoom ≤ length d → page ≡ (first + i) % b → answer ≡ laid (pageByte n img t first b) (4 * i) d
       → after ≡ sets answer (4 * i) (bytesOf (seenPage n img t page)) → after ≡ laid (pageByte n img t first b) (4 * (i + 1)) d
   unfolding bytesOf seenPage
   pages-turn i page count answer after d l m room e f g =

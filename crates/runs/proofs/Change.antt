@@ -23,7 +23,7 @@ use Rattle.tag.specs.declared.state.State.{State}
 use Rattle.tag.specs.declared.state.State.the-variants.{Idle, Halt, Ready1, Ready2, Active}
 use Rattle.tag.specs.declared.state.Tag.{Tag}
 use Rattle.tag.specs.State.{moved, woken, waitState, backToWait, selected, halted, authenticatedIn, authenticated, answering}
-use Rattle.tag.specs.Outcome.{Reply, silence, nibble, bytes, plain, bitsOf, answerOf, Effect, keep, put, apply, Does, does, lost, ack, nakAfter, nak, says}
+use Rattle.tag.specs.Outcome.{Reply, silence, nibble, bytes, plain, bitsOf, answerOf, Effect, keep, put, apply, Does, does, lost, ack, nakAfter, nak, says, answerRoom}
 use Rattle.reads.specs.Read.{bound, pagesFrom, counting, readAnswered, read, fastRead}
 use Rattle.commands.specs.Commands.{refuses, write, version, readCount, limitReached, same, failing, wrongCounted, accepted, rejected, pwdAuth, hlta}
 use Rattle.active.specs.declared.Command.{Command}
@@ -243,7 +243,7 @@ call-step n img r f size =
     let t = tagOf r in
     let P : Called → Type 0 = λ o. Steps n img t f (doneBy o) in
     rw size
-    (by P (leb 1024 (f .room))
+    (by P (leb answerRoom (f .room))
     (λ _. by P (isFrame (f .bytes) (f .bits))
     (λ e. rw read-again (heard-step n img t f (frame-whole (f .bytes) (f .bits) _ refl e) (t .state)))
     (λ _. silent-step n img t f t (λ a. a)))

@@ -12,7 +12,7 @@ ghost use mathlib.Core.Bool.{true};
 ghost use mathlib.Core.List.{List};
 ghost use Prim.Native.Nat.{ℕ, _+_, _*_, _/_, _%_, _^_, _≤_, _<_};
 ghost use lib.ListN.{length, getD};
-ghost use Rattle.tag.specs.Outcome.{Did};
+ghost use Rattle.tag.specs.Outcome.{answerRoom, Did};
 ghost use Rattle.selection.specs.Selection.{wakes, inIdle, inHalt, forty, own1, own2, sent, asks, known, anticollision, select, inReady, inReady1, inReady2};
 
 // Byte i of a frame, zero behind its end.
@@ -24,7 +24,7 @@ fn arg(frame: &[u8], i: usize) -> u8
 
 // The answer to REQA and WUPA.
 fn wake(answer: &mut [u8], tag: Tag) -> Step
-    requires { ⌜ 1024 ≤ length (now answer) ⌝ }
+    requires { ⌜ answerRoom ≤ length (now answer) ⌝ }
     ensures { λ r. ⌜ ((img : List ℕ) → Did (wakes tag) r img img (now (answer .entry)) (now (answer .exit))) ⌝ }
 {
     let state = tag.state;
@@ -33,7 +33,7 @@ fn wake(answer: &mut [u8], tag: Tag) -> Step
 
 // A frame in IDLE.
 pub fn idle(answer: &mut [u8], tag: Tag, frame: &[u8], bits: usize) -> Step
-    requires { ⌜ 1024 ≤ length (now answer) ⌝ }
+    requires { ⌜ answerRoom ≤ length (now answer) ⌝ }
     ensures { λ r. ⌜ ((img : List ℕ) → Did (inIdle tag (now (frame .entry)) bits) r img img (now (answer .entry)) (now (answer .exit))) ⌝ }
 {
     if bits == 7 {
@@ -49,7 +49,7 @@ pub fn idle(answer: &mut [u8], tag: Tag, frame: &[u8], bits: usize) -> Step
 
 // A frame in HALT.
 pub fn halt(answer: &mut [u8], tag: Tag, frame: &[u8], bits: usize) -> Step
-    requires { ⌜ 1024 ≤ length (now answer) ⌝ }
+    requires { ⌜ answerRoom ≤ length (now answer) ⌝ }
     ensures { λ r. ⌜ ((img : List ℕ) → Did (inHalt tag (now (frame .entry)) bits) r img img (now (answer .entry)) (now (answer .exit))) ⌝ }
 {
     if bits == 7 {
@@ -143,7 +143,7 @@ fn power(n: usize) -> u64
 }
 
 fn anticollision(answer: &mut [u8], tag: Tag, frame: &[u8], bits: usize, n: usize, own: u64) -> Step
-    requires { ⌜ (1024 ≤ length (now answer)) × (n ≡ known (getD (now frame) 1 0)) × (n ≤ 39) × (own < 2 ^ 40) ⌝ }
+    requires { ⌜ (answerRoom ≤ length (now answer)) × (n ≡ known (getD (now frame) 1 0)) × (n ≤ 39) × (own < 2 ^ 40) ⌝ }
     ensures { λ r. ⌜ ((img : List ℕ) → Did (anticollision tag (now (frame .entry)) bits own) r img img (now (answer .entry)) (now (answer .exit))) ⌝ }
 {
     if bits == 16 + n {
@@ -158,7 +158,7 @@ fn anticollision(answer: &mut [u8], tag: Tag, frame: &[u8], bits: usize, n: usiz
 }
 
 fn select(answer: &mut [u8], tag: Tag, frame: &[u8], bits: usize, own: u64, sak: u8) -> Step
-    requires { ⌜ (1024 ≤ length (now answer)) × (length (now frame) ≡ (bits + 7) / 8) ⌝ }
+    requires { ⌜ (answerRoom ≤ length (now answer)) × (length (now frame) ≡ (bits + 7) / 8) ⌝ }
     ensures { λ r. ⌜ ((img : List ℕ) → Did (select tag (now (frame .entry)) bits own sak) r img img (now (answer .entry)) (now (answer .exit))) ⌝ }
 {
     if bits != 72 {
@@ -188,7 +188,7 @@ fn ready(
     own: u64,
     sak: u8,
 ) -> Step
-    requires { ⌜ (1024 ≤ length (now answer)) × (own < 2 ^ 40) × (length (now frame) ≡ (bits + 7) / 8) ⌝ }
+    requires { ⌜ (answerRoom ≤ length (now answer)) × (own < 2 ^ 40) × (length (now frame) ≡ (bits + 7) / 8) ⌝ }
     ensures { λ r. ⌜ ((img : List ℕ) → Did (inReady tag (now (frame .entry)) bits parity code own sak) r img img (now (answer .entry)) (now (answer .exit))) ⌝ }
 {
     if parity {
@@ -218,7 +218,7 @@ pub fn ready1(
     bits: usize,
     parity: bool,
 ) -> Step
-    requires { ⌜ (8 ≤ length (now image)) × (1024 ≤ length (now answer)) × (length (now frame) ≡ (bits + 7) / 8) ⌝ }
+    requires { ⌜ (8 ≤ length (now image)) × (answerRoom ≤ length (now answer)) × (length (now frame) ≡ (bits + 7) / 8) ⌝ }
     ensures { λ r. ⌜ ((img : List ℕ) → Did (inReady1 (now (image .entry)) tag (now (frame .entry)) bits parity) r img img (now (answer .entry)) (now (answer .exit))) ⌝ }
 {
     ready(answer, tag, frame, bits, parity, 0x93, own1(image), 0x04)
@@ -233,7 +233,7 @@ pub fn ready2(
     bits: usize,
     parity: bool,
 ) -> Step
-    requires { ⌜ (8 ≤ length (now image)) × (1024 ≤ length (now answer)) × (length (now frame) ≡ (bits + 7) / 8) ⌝ }
+    requires { ⌜ (8 ≤ length (now image)) × (answerRoom ≤ length (now answer)) × (length (now frame) ≡ (bits + 7) / 8) ⌝ }
     ensures { λ r. ⌜ ((img : List ℕ) → Did (inReady2 (now (image .entry)) tag (now (frame .entry)) bits parity) r img img (now (answer .entry)) (now (answer .exit))) ⌝ }
 {
     ready(answer, tag, frame, bits, parity, 0x95, own2(image), 0x00)

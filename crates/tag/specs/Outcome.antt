@@ -94,10 +94,14 @@ pub record Did (o : Does) (r : Step) (img image′ before after : List ℕ) : Ty
   pub tag : r .tag ≡ o .tag
   pub answer : after ≡ over (answerOf (o .reply)) before
 
+-- "2: frame call: answer buffer under 1,024 bytes"
+abbrev pub answerRoom : ℕ
+answerRoom = 1024
+
 -- an image of n pages, and an answer buffer that isn't refused
 pub record Room (n : ℕ) (img answer : List ℕ) : Type 0 where
   pub fit : Fits n img
-  pub room : 1024 ≤ length answer
+  pub room : answerRoom ≤ length answer
 
 -- ---- what the builders of answers promise, whatever was done to the image
 

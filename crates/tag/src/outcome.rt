@@ -6,6 +6,9 @@ ghost use Prim.Native.Nat.{ℕ, _+_, _^_, _≤_, _<_};
 ghost use lib.ListN.{length};
 ghost use Rattle.tag.specs.Outcome.{silence, plain, keep, lowBytes, over, does, Did, lost, nak, Acks, Says};
 
+// The smallest answer buffer that the frame call takes.
+pub const ANSWER_ROOM: usize = 1024;
+
 // What a frame leaves beside the image and the answer buffer: the answer's bit count, and the tag.
 pub struct Step {
     pub bits: usize,

@@ -1,0 +1,84 @@
+-- What no run of lines can reach, as one table of equations: records that no call hands out, and the edge of the answer buffer. Assumes
+-- nothing.
+use mathlib.Core.Path.{_≡_}
+use mathlib.Core.List.{List, [], _∷_}
+use mathlib.Core.Bool.{Bool, true, false}
+use Prim.Native.Nat.{ℕ}
+use lib.ListN.{getD, replicate}
+use Rattle.tag.specs.declared.state.Wait.the-variants.{ToIdle, ToHalt}
+use Rattle.tag.specs.declared.state.State.{State}
+use Rattle.tag.specs.declared.state.State.the-variants.{Idle, Halt, Ready1, Ready2, Active}
+use Rattle.tag.specs.declared.state.Tag.{Tag}
+use Rattle.tag.specs.declared.record.TagRecord.{TagRecord}
+use Rattle.tag.specs.State.{fieldOff}
+use Rattle.tag.specs.Outcome.{silence, plain}
+use Rattle.tag.specs.Record.{tagOf, fieldLoss}
+use Rattle.radio.specs.Call.{Called, called}
+use Rattle.two_wire.specs.declared.record.BusRecord.{BusRecord}
+use Rattle.two_wire.specs.declared.answer.Reply.the-variants.{Refused, Nothing, Declined, Byte}
+use Rattle.two_wire.specs.Event as wires
+use Rattle.demands.specs.Table.{plain as board}
+
+-- ---- the tag record
+
+-- its four numbers: state, wait state, authenticated, answered
+abbrev pub numbers : ℕ → ℕ → ℕ → ℕ → TagRecord
+numbers s w g a = record { state = s; wait = w; authenticated = g; answered = a }
+
+abbrev pub tag : State → Bool → Tag
+tag s a = record { state = s; answered = a }
+
+-- REQA, which wakes a tag in IDLE alone
+abbrev pub reqa : List ℕ → ℕ → TagRecord → Called
+reqa img room r = called img room r (0x26 ∷ []) 7 true
+
+-- ---- the bus record, with gathered bytes of FFh
+
+abbrev pub bus : ℕ → ℕ → ℕ → BusRecord
+bus phase held counter = record { phase = phase; held = held; counter = counter; bytes = replicate 64 0xFF }
+
+abbrev pub sees : BusRecord → ℕ → wires.Does
+sees r event = wires.does (board 45) r event 0x11
+
+-- at rest, or waiting for the device byte, with nothing gathered
+abbrev pub empty : ℕ → ℕ → BusRecord
+empty phase counter = record { phase = phase; held = 0; counter = counter; bytes = replicate 64 0 }
+
+-- the image behind a stop
+abbrev pub stored : BusRecord → List ℕ
+stored r = wires.after (board 45) (sees r 1 .effect)
+
+pub record RecordCases : Type 0 where
+  -- every number that has a meaning, and the largest of all at once
+  pub states : (tagOf (numbers 0 0 0 0) ≡ tag Idle false) × (tagOf (numbers 1 0 0 0) ≡ tag Halt false) × (tagOf (numbers 2 0 0 0) ≡ tag (Ready1 ToIdle) false)
+      × (tagOf (numbers 3 0 0 0) ≡ tag (Ready2 ToIdle) false) × (tagOf (numbers 4 0 0 0) ≡ tag (Active ToIdle false) false)
+  pub largest : (tagOf (numbers 4 1 1 1) ≡ tag (Active ToHalt true) true) × (tagOf (numbers 3 1 0 1) ≡ tag (Ready2 ToHalt) true)
+  -- a number that its state has no use for is passed over
+  pub unused : (tagOf (numbers 0 1 1 1) ≡ tag Idle true) × (tagOf (numbers 1 1 1 0) ≡ tag Halt false) × (tagOf (numbers 2 1 1 0) ≡ tag (Ready1 ToHalt) false)
+  -- "a tag record with no meaning here counts as after field loss": one number past its range, and far past
+  pub noState : (tagOf (numbers 5 1 1 1) ≡ fieldOff) × (tagOf (numbers 255 1 1 1) ≡ fieldOff)
+  pub noWait : (tagOf (numbers 4 2 1 1) ≡ fieldOff) × (tagOf (numbers 4 255 1 1) ≡ fieldOff)
+  pub noFlag : (tagOf (numbers 4 1 2 1) ≡ fieldOff) × (tagOf (numbers 4 1 255 1) ≡ fieldOff)
+  pub noAnswered : (tagOf (numbers 4 1 1 2) ≡ fieldOff) × (tagOf (numbers 4 1 1 255) ≡ fieldOff)
+  -- .. in the frame call: REQA wakes it, though its state is HALT, and no read counts as answered
+  pub wakes : (reqa (board 45) 1024 (numbers 1 0 0 2) .reply ≡ plain 16 0x44) × (reqa (board 45) 1024 (numbers 1 0 0 2) .left ≡ numbers 2 0 0 0)
+  pub sleeps : (reqa (board 45) 1024 (numbers 1 0 0 1) .reply ≡ silence) × (reqa (board 45) 1024 (numbers 1 0 0 1) .left ≡ numbers 1 0 0 1)
+  pub fieldLosses : (fieldLoss (numbers 4 1 1 2) ≡ numbers 0 0 0 0) × (fieldLoss (numbers 9 9 9 9) ≡ numbers 0 0 0 0) × (fieldLoss (numbers 4 1 1 1) ≡ numbers 0 0 0 0)
+  -- "A refused call returns its number, no answer, the records it was given"
+  pub refusedImage : (reqa [] 1024 (numbers 9 9 9 9) .refused ≡ 1) × (reqa [] 1024 (numbers 9 9 9 9) .left ≡ numbers 9 9 9 9)
+  -- "2: frame call: answer buffer under 1,024 bytes"
+  pub refusedBuffer : (reqa (board 45) 1023 (numbers 9 9 9 9) .refused ≡ 2) × (reqa (board 45) 1023 (numbers 9 9 9 9) .left ≡ numbers 9 9 9 9)
+      × (reqa (board 45) 1024 (numbers 9 9 9 9) .refused ≡ 0)
+  -- "such a bus record as stopped with nothing gathered, counter kept": its phase is none of the seven, whatever else it has
+  pub restRead : (sees (bus 7 5 0x4010) 3 ≡ wires.answered (Byte 0xFF) (bus 7 5 0x4010)) × (sees (bus 255 5 0x4010) 4 ≡ wires.answered (Byte 0xFF) (bus 255 5 0x4010))
+  pub restSent : (sees (bus 7 5 0x4010) 2 ≡ wires.answered Declined (bus 7 5 0x4010)) × (sees (bus 255 5 0x4010) 2 ≡ wires.answered Declined (bus 255 5 0x4010))
+  pub restStarts : sees (bus 7 5 0x4010) 0 ≡ wires.answered Nothing (empty 1 0x4010)
+  pub restStops : sees (bus 7 5 0x4010) 1 ≡ wires.answered Nothing (empty 0 0x4010)
+  -- "4: bus call: event isn't one of the five"; "the records it was given"
+  pub refusedEvent : (sees (bus 7 5 0x4010) 5 ≡ wires.answered (Refused 4) (bus 7 5 0x4010)) × (wires.does [] (bus 7 5 0x4010) 9 0 ≡ wires.answered (Refused 1) (bus 7 5 0x4010))
+  -- while writing, a count of 64 or more is of every place, and the next place goes by its remainder: bytes up to 403Fh, and then no more
+  pub everyPlace : (getD (stored (bus 4 255 0x4015)) 0x14 0 ≡ 0xFF) × (getD (stored (bus 4 255 0x4015)) 0x3F 0 ≡ 0xFF) × (getD (stored (bus 4 255 0x4015)) 0x40 0 ≡ 0x10)
+      × (sees (bus 4 255 0x4015) 1 .bus ≡ empty 0 0x4014)
+  pub countsOn : (sees (bus 4 255 0x4015) 2 .bus .held ≡ 64) × (sees (bus 4 127 0x4015) 2 .bus .held ≡ 64) × (sees (bus 4 63 0x4015) 2 .bus .held ≡ 64)
+  -- a write whose counter lies outside the window stores nothing
+  pub outside : (stored (bus 4 64 0x3FC0) ≡ board 45) × (stored (bus 4 64 0x40C0) ≡ board 45)
