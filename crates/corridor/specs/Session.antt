@@ -8,7 +8,6 @@ use Rattle.corridor.specs.Played.{Board, Played, answerTo, boardAfter}
 use Rattle.corridor.specs.declared.session.Session.{Session}
 use Rattle.corridor.specs.declared.session.Acted.{Acted}
 use Rattle.corridor.specs.declared.session.Responded.{Responded}
-use Rattle.corridor.specs.declared.input.Input.{Input}
 
 abbrev pub boardOf : Session → List ℕ → Board
 boardOf s img = record { image = take (s .size) img; lent = s .lent; tag = s .tag; bus = s .bus }
@@ -31,9 +30,3 @@ pub record Answers (b : Board) (line : List ℕ) (r : Responded) (img out : List
   pub room : r .length ≤ 2080
   pub board : boardOf (r .session) img ≡ boardAfter b line
   pub text : take (r .length) out ≡ answerTo b line
-
--- the input's places lie within its buffers
-pub record Reads (i : Input) : Type 0 where
-  pub at : i .at ≤ i .end
-  pub end : i .end ≤ 4096
-  pub len : i .len ≤ 16398

@@ -1,9 +1,17 @@
 // Standard input, line by line. What was read last stands in a chunk, and the line that is being gathered in a line
-// buffer of 16,398 bytes, one more than the longest command has: a line that fills it is too long, and what is
-// behind that is dropped.
-ghost use Rattle.corridor.specs.Session.{Reads};
+// buffer. A line that fills the buffer is too long for a command, and what is behind that is dropped.
+use bytes::scan::find;
+use laying::put;
+ghost use mathlib.Core.Path.{_≡_};
+ghost use mathlib.Core.List.{_++_};
+ghost use Prim.Native.Nat.{_-_, _<_, _≤_};
+ghost use lib.ListN.{length, take, drop};
+ghost use Rattle.corridor.specs.Reading.{Reads, Refills, Advances, ahead as Reading·ahead};
 
-pub type Line = [u8; 16398];
+// Two more than the longest command has.
+pub const ROOM: usize = 16399;
+
+pub type Line = [u8; ROOM];
 
 pub type Chunk = [u8; 4096];
 
@@ -21,9 +29,32 @@ pub struct Input {
     pub over: bool,
 }
 
+// Puts the bytes of the chunk from `from` to `to` behind the first `len` of the line, as many as it has room for.
+fn append(line: &mut [u8], len: usize, chunk: &[u8], from: usize, to: usize) -> usize
+    requires { ⌜ (len ≤ length (now line)) × (from ≤ to) × (to ≤ length (now chunk)) ⌝ }
+    ensures { λ r. ⌜ r ≤ length (now (line .entry)) ⌝ }
+    ensures { λ r. ⌜ take r (now (line .exit)) ≡ take (length (now (line .entry))) (take len (now (line .entry)) ++ take (to - from) (drop from (now (chunk .entry)))) ⌝ }
+{
+    let room = line.len() - len;
+    if to - from <= room {
+        return put(line, len, &chunk[from..to]);
+    }
+    let cut = from + room;
+    put(line, len, &chunk[from..cut])
+}
+
+// Reads once, and answers how many bytes of the chunk that gave: none at the end of the input, or where the read fails.
+fn read_some(chunk: &mut Chunk) -> usize
+    ensures { λ r. ⌜ (r ≤ 4096) × (r ≤ length (now (chunk .exit))) ⌝ }
+{
+    let got = libc::read(STDIN, chunk);
+    io::count(got, chunk)
+}
+
 impl Input {
     pub fn new() -> Self
         ensures { λ r. ⌜ Reads r ⌝ }
+        ensures { λ r. ⌜ (r .at ≡ 0) × (r .end ≡ 0) × (r .len ≡ 0) ⌝ }
     {
         Self {
             at: 0,
@@ -38,6 +69,7 @@ impl Input {
     pub fn answered(mut self) -> Self
         requires { ⌜ Reads self ⌝ }
         ensures { λ r. ⌜ Reads r ⌝ }
+        ensures { λ r. ⌜ (r .at ≡ self .at) × (r .end ≡ self .end) × (r .len ≡ 0) × (r .over ≡ self .over) ⌝ }
     {
         self.len = 0;
         self.whole = false;
@@ -47,21 +79,21 @@ impl Input {
     // One step: the rest of the chunk up to a newline, or, where nothing is left of it, one read.
     pub fn advance(self, line: &mut Line, chunk: &mut Chunk) -> Self
         requires { ⌜ Reads self ⌝ }
-        ensures { λ r. ⌜ Reads r ⌝ }
+        ensures { λ r. ⌜ Advances (take (self .len) (now (line .entry))) (Reading·ahead self (now (chunk .entry))) r (now (line .exit)) (now (chunk .exit)) ⌝ }
     {
         if self.at < self.end {
             return self.gather(line, chunk);
         }
-        self.refill(chunk)
+        let n = read_some(chunk);
+        self.refilled(n)
     }
 
-    // Reads once. At the end of the input, or where the read fails, the line counts as whole.
-    fn refill(self, chunk: &mut Chunk) -> Self
+    // A read gave n bytes. At the end of the input the line counts as whole.
+    fn refilled(self, n: usize) -> Self
         requires { ⌜ Reads self ⌝ }
-        ensures { λ r. ⌜ Reads r ⌝ }
+        requires { ⌜ n ≤ 4096 ⌝ }
+        ensures { λ r. ⌜ Refills self n r ⌝ }
     {
-        let got = libc::read(STDIN, chunk);
-        let n = io::count(got, chunk);
         let ended = n == 0;
         Self {
             at: 0,
@@ -75,30 +107,24 @@ impl Input {
     // Moves bytes of the chunk to the line, up to a newline, which is dropped, or the chunk's end.
     fn gather(self, line: &mut Line, chunk: &Chunk) -> Self
         requires { ⌜ Reads self ⌝ }
-        ensures { λ r. ⌜ Reads r ⌝ }
+        requires { ⌜ self .at < self .end ⌝ }
+        ensures { λ r. ⌜ Advances (take (self .len) (now (line .entry))) (Reading·ahead self (now (chunk .entry))) r (now (line .exit)) (now (chunk .entry)) ⌝ }
     {
+        let at = self.at;
         let end = self.end;
-        let mut at = self.at;
-        let mut len = self.len;
-        while at < end {
-            let b = chunk[at];
-            at += 1;
-            if b == b'\n' {
-                return Self {
-                    at,
-                    end,
-                    len,
-                    whole: true,
-                    over: false,
-                };
-            }
-            if len < 16398 {
-                line[len] = b;
-                len += 1;
-            }
+        let stop = find(chunk, at, end, b'\n');
+        let len = append(line, self.len, chunk, at, stop);
+        if stop < end {
+            return Self {
+                at: stop + 1,
+                end,
+                len,
+                whole: true,
+                over: false,
+            };
         }
         Self {
-            at,
+            at: end,
             end,
             len,
             whole: false,

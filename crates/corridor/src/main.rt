@@ -6,6 +6,7 @@ mod session;
 use input::Chunk;
 use input::Input;
 use input::Line;
+use input::ROOM;
 use lines::read::Sent;
 use lines::write::Kilobyte;
 use lines::write::Out;
@@ -14,20 +15,23 @@ use session::new_session;
 use session::respond;
 ghost use Prim.Native.Nat.{_≤_};
 ghost use lib.ListN.{length};
-ghost use Rattle.corridor.specs.Session.{Within, Reads};
+ghost use Rattle.corridor.specs.Reading.{Typing, ahead, Reads, Stands, Turns};
+ghost use Rattle.corridor.specs.Session.{Within};
 
 const STDOUT: i32 = 1;
 
-// Writes the first `n` bytes.
-fn say(out: &[u8], n: usize)
+// Writes the first `n` bytes, and answers whether that could be done.
+fn say(out: &[u8], n: usize) -> bool
     requires { ⌜ n ≤ length (now out) ⌝ }
 {
-    io::write_all(STDOUT, &out[0..n]);
+    io::write_all(STDOUT, &out[0..n])
 }
 
+// What a turn leaves: so many bytes at the start of `out` are to be written.
 struct Turned {
     input: Input,
     session: Session,
+    said: usize,
 }
 
 // One turn: goes on with the input, and answers a line where it is whole now.
@@ -43,19 +47,25 @@ fn turn(
 ) -> Turned
     requires { ⌜ Reads input ⌝ }
     requires { ⌜ Within session ⌝ }
-    ensures { λ r. ⌜ (Reads (r .input)) × (Within (r .session)) ⌝ }
+    ensures { λ r. ⌜ (Reads (r .input)) × (Within (r .session)) × (r .said ≤ 2080) ⌝ }
+    ensures { λ r. ⌜ ((t : Typing) → Stands t session input (now (image .entry)) (now (line .entry)) → Turns t (ahead input (now (chunk .entry))) r (now (image .exit)) (now (line .exit)) (now (chunk .exit)) (now (out .exit))) ⌝ }
 {
     let moved = input.advance(line, chunk);
     if moved.whole {
         let responded = respond(image, answer, bytes, out, line, moved.len, session);
-        say(out, responded.length);
         let input = moved.answered();
         let session = responded.session;
-        return Turned { input, session };
+        let said = responded.length;
+        return Turned {
+            input,
+            session,
+            said,
+        };
     }
     Turned {
         input: moved,
         session,
+        said: 0,
     }
 }
 
@@ -76,8 +86,10 @@ fn play(
         let turned = turn(image, answer, bytes, out, line, chunk, input, session);
         let next = turned.input;
         let left = turned.session;
+        let said = turned.said;
         input = next;
         session = left;
+        say(out, said);
         if next.over {
             return;
         }
@@ -89,7 +101,7 @@ fn main() {
     let mut answer = [0u8; 1024];
     let mut bytes = [0u8; 8192];
     let mut out = [0u8; 2080];
-    let mut line = [0u8; 16398];
+    let mut line = [0u8; ROOM];
     let mut chunk = [0u8; 4096];
     play(
         &mut image,

@@ -230,7 +230,7 @@ pub fn respond(
     len: usize,
     session: Session,
 ) -> Responded
-    requires { ⌜ len ≤ 16398 ⌝ }
+    requires { ⌜ len ≤ 16399 ⌝ }
     requires { ⌜ Within session ⌝ }
     ensures { λ r. ⌜ Answers (boardOf session (now (image .entry))) (take len (now (line .entry))) r (now (image .exit)) (now (out .exit)) ⌝ }
 {

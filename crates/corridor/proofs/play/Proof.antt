@@ -1,6 +1,7 @@
 -- `corridor::play` meets its contract. Assumes nothing.
 use borrow.Author.Needs.{needs}
-use Rattle.corridor.specs.Session.{Within, Reads}
+use Rattle.corridor.specs.Reading.{Reads}
+use Rattle.corridor.specs.Session.{Within}
 use Rattle.corridor.proofs.play.Statement.{statement}
 use Rattle.corridor.proofs.play.Tie as tie
 
@@ -20,6 +21,7 @@ play-spec =
     (λ c κs. search needs)
     (λ c. search needs)
     (λ c. search needs)
+    (λ c κs. search needs)
     (λ c κs. search needs)
     (λ c. search needs)
     (λ c. search needs)

@@ -1,0 +1,15 @@
+-- `corridor::input::Input::advance` meets its contract. Assumes nothing.
+use borrow.Author.Needs.{needs}
+use Rattle.corridor.proofs.Shell.{refilled-line}
+use Rattle.corridor.proofs.input.Input.advance.Statement.{statement}
+use Rattle.corridor.proofs.input.Input.advance.Tie as tie
+
+pub advance-spec : {M : Type 1} → statement M
+advance-spec =
+    tie.close
+    (tie.spec
+    (λ c κs. search needs)
+    (λ c. search needs)
+    (λ c κs. search needs)
+    (λ c κs. search needs)
+    (λ c. search refilled-line))
