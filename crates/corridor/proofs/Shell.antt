@@ -1,23 +1,23 @@
 -- Laws of the input's lines: how they are cut, and what the program has said and kept behind them. Assumes nothing.
 use Prim.Native.Nat.{ℕ, zero, suc, _+_, _-_, _<_, _≤_}
 use mathlib.Core.Path.{_≡_, refl, sym, ap, ap₂, subst, _∙_}
-use mathlib.Core.Bool.{Bool, true, false, cond, _||_}
+use mathlib.Core.Bool.{Bool, true, false, cond, _||_, or-false}
 use mathlib.Core.List.{List, [], _∷_, _++_, append-assoc, append-nil}
 use native.Mathlib.Omega.{arith}
 use lib.Dec.{eqb, ltb, leb}
 use lib.ListN.{length, take, drop, getD, length-take, length-drop, length-append, drop-of-length-le}
 use lib.Seq.{getD-take, take-all, take-take, take-append-add, drop-drop, length-take-le}
-use borrow.Author.Tests.{lt-ltb, le-ltb, leb-true, leb-false, ne-eqb}
+use borrow.Author.Tests.{lt-ltb, le-ltb, ltb-true, ltb-false, leb-true, leb-false, eqb-true, eqb-false, ne-eqb}
 use Rattle.basics.proofs.Choice.{never, split}
-use Rattle.bytes.specs.Bytes.{indexOf, slice}
+use Rattle.bytes.specs.Bytes.{indexAfter, indexOf, slice}
 use Rattle.words.specs.Args.{Said, saidIn, long}
 use Rattle.laying.specs.Parts.{word, lineText, Laid}
 use Rattle.lines.specs.declared.read.Verb.the-variants as verb
 use Rattle.lines.specs.Said.{verbOf, saidOf, isSkipped}
 use Rattle.lines.specs.Told.{partsOf}
-use Rattle.corridor.specs.Played.{Board, played, answerTo, boardAfter}
+use Rattle.corridor.specs.Played.{Board, opening, played, answerTo, boardAfter}
 use Rattle.corridor.specs.Session.{boardOf, Answers}
-use Rattle.corridor.specs.Reading.{Typing, came, told, firstLine, hasNewline, behindLine, kept, ahead, Reads, Refills, Moves, Advances, Stands, Turns}
+use Rattle.corridor.specs.Reading.{Typing, came, told, typed, start, boardAtEnd, firstLine, hasNewline, behindLine, lineRoom, kept, ahead, Reads, Refills, Begins, Moves, Advances, Stands, Turns, Goes, Reached, AtEnd}
 use Rattle.corridor.specs.declared.Turned.{Turned}
 use Rattle.corridor.specs.declared.input.Input.{Input}
 use Rattle.corridor.specs.declared.session.Session.{Session}
@@ -66,7 +66,7 @@ part (suc n) (suc m) [] = let p : (k : ℕ) → take k [] ≡ [] = (λ k. nil k)
     nil (suc k) = refl
 part (suc n) (suc m) (x ∷ l) = let p : suc m - suc n ≡ m - n = omega arith in part n m l ∙ ap (λ (k : ℕ). take k (drop n l)) (sym p)
 
-module _ (i : Input) (line out chunk : List ℕ) (stop len : ℕ) (reads : Reads i) (size : length chunk ≡ 4096) (room : length line ≡ 16399)
+module _ (i : Input) (line out chunk : List ℕ) (stop len : ℕ) (reads : Reads i) (size : length chunk ≡ 4096) (room : length line ≡ lineRoom)
     (found : stop ≡ i .at + indexOf 10 (slice (i .at) (i .end) chunk)) (within : stop ≤ i .end) (few : len ≤ length line)
     (laid : take len out ≡ take (length line) (take (i .len) line ++ take (stop - i .at) (drop (i .at) chunk))) where
   abbrev a : List ℕ
@@ -133,13 +133,13 @@ unfolding slice indexOf
 refilled-line i r line chunk got n refills reads none few =
     let t : length (take (i .end) chunk) ≤ i .at = simp length-take (omega arith) in
     let a : ahead i chunk ≡ [] = drop-of-length-le (take (i .end) chunk) t in
-    let l : length (take (i .len) line) ≤ 16399 = simp length-take (omega (arith, reads .len)) in
+    let l : length (take (i .len) line) ≤ lineRoom = simp length-take (omega (arith, reads .len)) in
     let g : length (ahead r got) ≡ n = ap length (refills .bytes got) ∙ length-take-le n got few in
     record {
       reads = refills .reads;
       line =
           ap (λ (k : ℕ). take k line) (refills .line)
-          ∙ sym (take-all 16399 (take (i .len) line) l)
+          ∙ sym (take-all lineRoom (take (i .len) line) l)
           ∙ ap kept (sym (append-nil (take (i .len) line)))
           ∙ ap (λ (x : List ℕ). kept (take (i .len) line ++ firstLine x)) (sym a);
       whole = refills .whole ∙ sym (refills .over) ∙ ap (λ (x : List ℕ). hasNewline x || r .over) (sym a);
@@ -156,11 +156,11 @@ said-long : (w : List ℕ) → 16397 < length w → saidOf w ≡ long
 unfolding saidIn
 said-long w h = rw (lt-ltb 16397 (length w) h)
 
-skips-kept : (l : List ℕ) → 16399 < length l → isSkipped (kept l) ≡ isSkipped l
+skips-kept : (l : List ℕ) → lineRoom < length l → isSkipped (kept l) ≡ isSkipped l
 unfolding isSkipped
 skips-kept l h =
-    let n : length (kept l) ≡ 16399 = length-take-le 16399 l (omega arith) in
-    rw (ne-eqb (length (kept l)) 0 (λ z. omega (arith, n)), ne-eqb (length l) 0 (λ z. omega arith), getD-take 16399 l 0 0 (omega arith))
+    let n : length (kept l) ≡ lineRoom = length-take-le lineRoom l (omega arith) in
+    rw (ne-eqb (length (kept l)) 0 (λ z. omega (arith, n)), ne-eqb (length l) 0 (λ z. omega arith), getD-take lineRoom l 0 0 (omega arith))
 
 module _ (b : Board) where
   answer-long : (w : List ℕ) → 16397 < length w → answerTo b w ≡ cond (isSkipped w) [] (lineText (partsOf (played b verb.Help long .told)))
@@ -172,23 +172,23 @@ module _ (b : Board) where
   board-long w h = ap (λ (s : Said). cond (isSkipped w) b (played b (verbOf w) s .board)) (said-long w h)
 
   module _ (l : List ℕ) where
-    length-kept : 16399 < length l → 16397 < length (kept l)
-    length-kept h = omega (arith, length-take-le 16399 l (omega arith))
+    length-kept : lineRoom < length l → 16397 < length (kept l)
+    length-kept h = omega (arith, length-take-le lineRoom l (omega arith))
 
     answer-kept : answerTo b (kept l) ≡ answerTo b l
     answer-kept =
-        split (leb (length l) 16399)
-        (λ e. ap (answerTo b) (take-all 16399 l (leb-true (length l) 16399 e)))
-        (λ e. let h : 16399 < length l = leb-false (length l) 16399 e in
+        split (leb (length l) lineRoom)
+        (λ e. ap (answerTo b) (take-all lineRoom l (leb-true (length l) lineRoom e)))
+        (λ e. let h : lineRoom < length l = leb-false (length l) lineRoom e in
         answer-long (kept l) (length-kept h)
         ∙ ap (λ (s : Bool). cond s [] (lineText (partsOf (played b verb.Help long .told)))) (skips-kept l h)
         ∙ sym (answer-long l (omega arith)))
 
     board-kept : boardAfter b (kept l) ≡ boardAfter b l
     board-kept =
-        split (leb (length l) 16399)
-        (λ e. ap (boardAfter b) (take-all 16399 l (leb-true (length l) 16399 e)))
-        (λ e. let h : 16399 < length l = leb-false (length l) 16399 e in
+        split (leb (length l) lineRoom)
+        (λ e. ap (boardAfter b) (take-all lineRoom l (leb-true (length l) lineRoom e)))
+        (λ e. let h : lineRoom < length l = leb-false (length l) lineRoom e in
         board-long (kept l) (length-kept h)
         ∙ ap (λ (s : Bool). cond s b (played b verb.Help long .board)) (skips-kept l h)
         ∙ sym (board-long l (omega arith)))
@@ -207,25 +207,24 @@ module _ (t : Typing) (session : Session) (input moved : Input) (img line buf ch
   come = firstLine (ahead input chunk)
 
   line-kept : take (moved .len) buf ≡ kept (t .line ++ come)
-  line-kept = step .line ∙ ap (λ (g : List ℕ). kept (g ++ come)) (stands .line) ∙ kept-more 16399 (t .line) come
+  line-kept = step .line ∙ ap (λ (g : List ℕ). kept (g ++ come)) (stands .line) ∙ kept-more lineRoom (t .line) come
 
   pub turn-answers : (img′ out : List ℕ) (responded : Responded) (next : Input) → moved .whole ≡ true
       → Answers (boardOf session img) (take (moved .len) buf) responded img′ out
-      → (next .at ≡ moved .at) × (next .end ≡ moved .end) × (next .len ≡ 0) × (next .over ≡ moved .over)
+      → Begins moved next
       → Turns t (ahead input chunk) (record { input = next; session = responded .session; said = responded .length }) img′ buf got out
-  turn-answers img′ out responded next whole answer (at, end, len, over) =
-      let ended : (hasNewline (ahead input chunk) || next .over) ≡ true = ap (λ (o : Bool). hasNewline (ahead input chunk) || o) over ∙ sym (step .whole) ∙ whole in
-      let same : ahead next got ≡ ahead moved got = ap₂ (λ (f e : ℕ). slice f e got) at end in
+  turn-answers img′ out responded next whole answer begins =
+      let ended : (hasNewline (ahead input chunk) || next .over) ≡ true = ap (λ (o : Bool). hasNewline (ahead input chunk) || o) (begins .over) ∙ sym (step .whole) ∙ whole in
       record {
         stands = rw ended (record {
           board = answer .board ∙ ap₂ boardAfter (stands .board) line-kept ∙ board-kept (t .board) (t .line ++ come);
-          line = ap (λ (k : ℕ). take k buf) len;
+          line = ap (λ (k : ℕ). take k buf) (begins .line);
         });
         text = rw ended (answer .text ∙ ap₂ answerTo (stands .board) line-kept ∙ answer-kept (t .board) (t .line ++ come));
         moves = record {
-          behind = (λ some. same ∙ step .moves .behind some);
-          over = (λ e. step .moves .over (sym over ∙ e));
-          ended = (λ none. over ∙ step .moves .ended none ∙ ap (λ (x : List ℕ). eqb (length x) 0) (sym same));
+          behind = (λ some. begins .bytes got ∙ step .moves .behind some);
+          over = (λ e. step .moves .over (sym (begins .over) ∙ e));
+          ended = (λ none. begins .over ∙ step .moves .ended none ∙ ap (λ (x : List ℕ). eqb (length x) 0) (sym (begins .bytes got)));
         };
       }
 
@@ -237,4 +236,122 @@ module _ (t : Typing) (session : Session) (input moved : Input) (img line buf ch
         stands = rw open-yet (record { board = stands .board; line = line-kept });
         text = rw open-yet;
         moves = step .moves;
+      }
+
+-- ---- a whole run
+
+none-there : (a : List ℕ) → length a ≡ 0 → a ≡ []
+none-there [] e = refl
+none-there (x ∷ r) e = absurd (omega arith)
+
+-- no character comes, and no end of the line
+nothing-came : (t : Typing) → came t [] false ≡ t
+nothing-came t = ap (λ (l : List ℕ). record { board = t .board; line = l }) (append-nil (t .line))
+
+-- a character, and those behind it
+one-came : (t : Typing) (b : ℕ) (xs : List ℕ) (ended : Bool) → came (came t (b ∷ []) false) xs ended ≡ came t (b ∷ xs) ended
+one-came t b xs ended = ap (λ (l : List ℕ). cond ended (record { board = boardAfter (t .board) l; line = [] }) (record { board = t .board; line = l })) (append-assoc (t .line) (b ∷ []) xs)
+
+-- a line's characters at once, or one by one
+module _ (t : Typing) (b : ℕ) (r : List ℕ) where
+  -- what is typed where the newline is the k-th byte
+  abbrev at-once : ℕ → Typing
+  at-once k = typed (came t (take k (b ∷ r)) (ltb k (length (b ∷ r)))) (drop (k + 1) (b ∷ r))
+
+  newline-now : eqb b 10 ≡ true → typed t (b ∷ r) ≡ at-once (indexOf 10 (b ∷ r))
+  unfolding typed indexOf indexAfter
+  newline-now e =
+      let h : ltb 0 (length (b ∷ r)) ≡ true = lt-ltb 0 (length (b ∷ r)) (omega arith) in
+      let k : indexOf 10 (b ∷ r) ≡ 0 = ap (λ (x : Bool). indexAfter x (indexOf 10 r)) e in
+      ap (λ (x : Bool). typed (cond x (came t [] true) (came t (b ∷ []) false)) r) e
+      ∙ ap (λ (x : Bool). typed (came t [] x) r) (sym h)
+      ∙ ap at-once (sym k)
+
+  newline-later : eqb b 10 ≡ false
+      → typed (came t (b ∷ []) false) r ≡ typed (came (came t (b ∷ []) false) (firstLine r) (hasNewline r)) (behindLine r)
+      → typed t (b ∷ r) ≡ at-once (indexOf 10 (b ∷ r))
+  unfolding typed indexOf indexAfter
+  newline-later e rest =
+      let n = indexOf 10 r in
+      let k : indexOf 10 (b ∷ r) ≡ suc n = ap (λ (x : Bool). indexAfter x n) e in
+      let p : suc (n + 1) ≡ suc n + 1 = omega arith in
+      let h : ltb n (length r) ≡ ltb (suc n) (length (b ∷ r)) =
+      split (ltb n (length r))
+      (λ y. y ∙ sym (lt-ltb (suc n) (length (b ∷ r)) (omega (arith, ltb-true n (length r) y))))
+      (λ y. y ∙ sym (le-ltb (suc n) (length (b ∷ r)) (omega (arith, ltb-false n (length r) y)))) in
+      ap (λ (x : Bool). typed (cond x (came t [] true) (came t (b ∷ []) false)) r) e
+      ∙ rest
+      ∙ ap (λ (u : Typing). typed u (behindLine r)) (one-came t b (firstLine r) (hasNewline r))
+      ∙ ap₂ (λ (o : Bool) (j : ℕ). typed (came t (b ∷ take n r) o) (drop j (b ∷ r))) h p
+      ∙ ap at-once (sym k)
+
+typed-line : (t : Typing) (a : List ℕ) → typed t a ≡ typed (came t (firstLine a) (hasNewline a)) (behindLine a)
+unfolding typed indexOf
+typed-line t [] = sym (nothing-came t)
+typed-line t (b ∷ r) = split (eqb b 10) (newline-now t b r) (λ e. newline-later t b r e (typed-line (came t (b ∷ []) false) r))
+
+typed-more : (t : Typing) (a xs : List ℕ) → typed t (a ++ xs) ≡ typed (typed t a) xs
+unfolding typed
+typed-more t [] xs = refl
+typed-more t (b ∷ a) xs = typed-more (cond (eqb b 10) (came t [] true) (came t (b ∷ []) false)) a xs
+
+pub reached-start : (s : Session) (i : Input) (img buf chunk : List ℕ) → ((xs : List ℕ) → boardOf s xs ≡ opening)
+    → (i .at ≡ 0) × (i .end ≡ 0) × (i .len ≡ 0) → Reached s i img buf chunk
+unfolding slice
+reached-start s i img buf chunk opened (at, end, len) =
+    record {
+      all = [];
+      typing = start;
+      stands = record { board = opened img; line = ap (λ (k : ℕ). take k buf) len };
+      same = ap₂ (λ (f e : ℕ). typed start (drop f (take e chunk))) at end;
+    }
+
+module _ (s : Session) (i : Input) (r : Turned) (img img′ buf buf′ chunk chunk′ out : List ℕ) (reached : Reached s i img buf chunk)
+    (goes : Goes s i img buf chunk r img′ buf′ chunk′ out) where
+  abbrev here : Typing
+  here = reached .typing
+
+  turns : Turns here (ahead i chunk) r img′ buf′ chunk′ out
+  turns = goes .on here (reached .stands)
+
+  pub reached-next : r .input .over ≡ false → Reached (r .session) (r .input) img′ buf′ chunk′
+  unfolding indexOf typed
+  reached-next going =
+      split (eqb (length (ahead i chunk)) 0)
+      (λ e. let a : ahead i chunk ≡ [] = none-there (ahead i chunk) (eqb-true (length (ahead i chunk)) 0 e) in
+      let same : came here (firstLine (ahead i chunk)) (hasNewline (ahead i chunk) || r .input .over) ≡ typed start (reached .all) =
+      ap₂ (λ (x : List ℕ) (o : Bool). came here (firstLine x) (hasNewline x || o)) a going
+      ∙ nothing-came here
+      ∙ ap (typed here) (sym a)
+      ∙ reached .same in
+      record {
+        all = reached .all ++ ahead (r .input) chunk′;
+        typing = came here (firstLine (ahead i chunk)) (hasNewline (ahead i chunk) || r .input .over);
+        stands = turns .stands;
+        same = ap (λ (u : Typing). typed u (ahead (r .input) chunk′)) same ∙ sym (typed-more start (reached .all) (ahead (r .input) chunk′));
+      })
+      (λ e. let behind : ahead (r .input) chunk′ ≡ behindLine (ahead i chunk) = turns .moves .behind (eqb-false (length (ahead i chunk)) 0 e) in
+      let ended : (hasNewline (ahead i chunk) || r .input .over) ≡ hasNewline (ahead i chunk) =
+      ap (λ (o : Bool). hasNewline (ahead i chunk) || o) going ∙ or-false (hasNewline (ahead i chunk)) in
+      record {
+        all = reached .all;
+        typing = came here (firstLine (ahead i chunk)) (hasNewline (ahead i chunk) || r .input .over);
+        stands = turns .stands;
+        same =
+            ap₂ (λ (o : Bool) (x : List ℕ). typed (came here (firstLine (ahead i chunk)) o) x) ended behind
+            ∙ sym (typed-line here (ahead i chunk))
+            ∙ reached .same;
+      })
+
+  pub reached-end : r .input .over ≡ true → AtEnd (r .session) img′
+  unfolding indexOf typed boardAtEnd
+  reached-end over =
+      let a : ahead i chunk ≡ [] = none-there (ahead i chunk) (turns .moves .over over) in
+      let same : here ≡ typed start (reached .all) = ap (typed here) (sym a) ∙ reached .same in
+      record {
+        all = reached .all;
+        board =
+            turns .stands .board
+            ∙ ap₂ (λ (x : List ℕ) (o : Bool). came here (firstLine x) (hasNewline x || o) .board) a over
+            ∙ ap (λ (u : Typing). came u [] true .board) same;
       }

@@ -8,6 +8,8 @@ use lib.ListN.{length, take, drop}
 use Rattle.bytes.specs.Bytes.{indexOf, slice}
 use Rattle.corridor.specs.Played.{Board, opening, answerTo, boardAfter}
 use Rattle.corridor.specs.Session.{boardOf}
+use Rattle.corridor.specs.declared.Ending.{Ending}
+use Rattle.corridor.specs.declared.Ending.the-variants as ending
 use Rattle.corridor.specs.declared.Turned.{Turned}
 use Rattle.corridor.specs.declared.input.Input.{Input}
 use Rattle.corridor.specs.declared.session.Session.{Session}
@@ -51,9 +53,12 @@ behindLine a = drop (indexOf 10 a + 1) a
 
 -- ---- how the program holds it
 
--- the line buffer has two bytes more than the longest command; a line is kept up to there
+-- the line buffer has two bytes more than the longest command, and so much of a line is kept
+abbrev pub lineRoom : ℕ
+lineRoom = 16399
+
 abbrev pub kept : List ℕ → List ℕ
-kept l = take 16399 l
+kept l = take lineRoom l
 
 -- what is still to be looked at
 abbrev pub ahead : Input → List ℕ → List ℕ
@@ -63,7 +68,7 @@ ahead i chunk = slice (i .at) (i .end) chunk
 pub record Reads (i : Input) : Type 0 where
   pub at : i .at ≤ i .end
   pub end : i .end ≤ 4096
-  pub len : i .len ≤ 16399
+  pub len : i .len ≤ lineRoom
 
 -- A read gave n bytes: these are ahead, and the line stays; where there are none the input is over, and the line is whole.
 pub record Refills (i : Input) (n : ℕ) (r : Input) : Type 0 where
@@ -73,12 +78,20 @@ pub record Refills (i : Input) (n : ℕ) (r : Input) : Type 0 where
   pub whole : r .whole ≡ eqb n 0
   pub over : r .over ≡ eqb n 0
 
+-- The next line begins: nothing of it is there yet, and what is ahead stays.
+pub record Begins (i r : Input) : Type 0 where
+  pub reads : Reads r
+  pub bytes : (chunk : List ℕ) → ahead r chunk ≡ ahead i chunk
+  pub line : r .len ≡ 0
+  pub whole : r .whole ≡ false
+  pub over : r .over ≡ i .over
+
 -- What is ahead then, where a was: what is behind its first line; or, where nothing was ahead, what one read gave, and the input is over
 -- where that is nothing.
 pub record Moves (a : List ℕ) (r : Input) (chunk : List ℕ) : Type 0 where
-  pub behind : ((length a ≡ 0 → ⊥) → ahead r chunk ≡ behindLine a)
-  pub over : (r .over ≡ true → length a ≡ 0)
-  pub ended : (length a ≡ 0 → r .over ≡ eqb (length (ahead r chunk)) 0)
+  pub behind : (length a ≡ 0 → ⊥) → ahead r chunk ≡ behindLine a
+  pub over : r .over ≡ true → length a ≡ 0
+  pub ended : length a ≡ 0 → r .over ≡ eqb (length (ahead r chunk)) 0
 
 -- One step of the input, from a line g with a ahead, which leaves buf as the line's buffer: the line goes on up to a newline.
 pub record Advances (g a : List ℕ) (r : Input) (buf chunk : List ℕ) : Type 0 where
@@ -97,3 +110,27 @@ pub record Turns (t : Typing) (a : List ℕ) (r : Turned) (img buf chunk out : L
   pub stands : Stands (came t (firstLine a) (hasNewline a || r .input .over)) (r .session) (r .input) img buf
   pub text : take (r .said) out ≡ told t (firstLine a) (hasNewline a || r .input .over)
   pub moves : Moves a (r .input) chunk
+
+-- One turn, wherever the program stands: img, buf and chunk before it, img′, buf′, chunk′ and out behind it.
+pub record Goes (s : Session) (i : Input) (img buf chunk : List ℕ) (r : Turned) (img′ buf′ chunk′ out : List ℕ) : Type 0 where
+  pub on : (t : Typing) → Stands t s i img buf → Turns t (ahead i chunk) r img′ buf′ chunk′ out
+
+-- ---- a whole run
+
+-- There is an input behind which the program stands, but for what is ahead. (No contract says which bytes a read gives, so that none can
+-- name it.)
+pub record Reached (s : Session) (i : Input) (img buf chunk : List ℕ) : Type 0 where
+  pub all : List ℕ
+  pub typing : Typing
+  pub stands : Stands typing s i img buf
+  pub same : typed typing (ahead i chunk) ≡ typed start all
+
+-- It stands behind the end of an input.
+pub record AtEnd (s : Session) (img : List ℕ) : Type 0 where
+  pub all : List ℕ
+  pub board : boardOf s img ≡ boardAtEnd all
+
+abbrev pub Ends : Ending → Session → List ℕ → Type 0
+Ends ending.Over s img = AtEnd s img
+Ends ending.Unwritten s img = Unit
+Ends ending.Worn s img = Unit

@@ -6,7 +6,7 @@ ghost use mathlib.Core.Path.{_≡_};
 ghost use mathlib.Core.List.{_++_};
 ghost use Prim.Native.Nat.{_-_, _<_, _≤_};
 ghost use lib.ListN.{length, take, drop};
-ghost use Rattle.corridor.specs.Reading.{Reads, Refills, Advances, ahead as Reading·ahead};
+ghost use Rattle.corridor.specs.Reading.{Reads, Refills, Begins, Advances, ahead as Reading·ahead};
 
 // Two more than the longest command has.
 pub const ROOM: usize = 16399;
@@ -68,8 +68,7 @@ impl Input {
     // The line was answered: the next one begins.
     pub fn answered(mut self) -> Self
         requires { ⌜ Reads self ⌝ }
-        ensures { λ r. ⌜ Reads r ⌝ }
-        ensures { λ r. ⌜ (r .at ≡ self .at) × (r .end ≡ self .end) × (r .len ≡ 0) × (r .over ≡ self .over) ⌝ }
+        ensures { λ r. ⌜ Begins self r ⌝ }
     {
         self.len = 0;
         self.whole = false;

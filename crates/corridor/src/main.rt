@@ -13,12 +13,15 @@ use lines::write::Out;
 use session::Session;
 use session::new_session;
 use session::respond;
+ghost use mathlib.Core.Path.{_≡_};
 ghost use Prim.Native.Nat.{_≤_};
 ghost use lib.ListN.{length};
-ghost use Rattle.corridor.specs.Reading.{Typing, ahead, Reads, Stands, Turns};
+ghost use Rattle.corridor.specs.Reading.{Reads, Goes, Ends};
 ghost use Rattle.corridor.specs.Session.{Within};
 
 const STDOUT: i32 = 1;
+
+const STDERR: i32 = 2;
 
 // Writes the first `n` bytes, and answers whether that could be done.
 fn say(out: &[u8], n: usize) -> bool
@@ -48,7 +51,7 @@ fn turn(
     requires { ⌜ Reads input ⌝ }
     requires { ⌜ Within session ⌝ }
     ensures { λ r. ⌜ (Reads (r .input)) × (Within (r .session)) × (r .said ≤ 2080) ⌝ }
-    ensures { λ r. ⌜ ((t : Typing) → Stands t session input (now (image .entry)) (now (line .entry)) → Turns t (ahead input (now (chunk .entry))) r (now (image .exit)) (now (line .exit)) (now (chunk .exit)) (now (out .exit))) ⌝ }
+    ensures { λ r. ⌜ Goes session input (now (image .entry)) (now (line .entry)) (now (chunk .entry)) r (now (image .exit)) (now (line .exit)) (now (chunk .exit)) (now (out .exit)) ⌝ }
 {
     let moved = input.advance(line, chunk);
     if moved.whole {
@@ -69,7 +72,20 @@ fn turn(
     }
 }
 
-// A proved loop has to end, and nothing says that the input does: so the turns are counted down, from a number that no run uses up.
+// How a run ended: with the input; because its output couldn't be written; because its turns were used up.
+enum Ending {
+    Over,
+    Unwritten,
+    Worn,
+}
+
+struct Ended {
+    ending: Ending,
+    session: Session,
+}
+
+// Plays to the end of the input, and writes what each turn says. A proved loop has to end, and nothing says that the input does: so the turns
+// are counted down, from a number that no run uses up.
 fn play(
     image: &mut Kilobyte,
     answer: &mut Kilobyte,
@@ -77,22 +93,37 @@ fn play(
     out: &mut Out,
     line: &mut Line,
     chunk: &mut Chunk,
-) {
+    most: u64,
+) -> Ended
+    requires { ⌜ most ≡ 18446744073709551615 ⌝ }
+    ensures { λ r. ⌜ Ends (r .ending) (r .session) (now (image .exit)) ⌝ }
+{
     let mut input = Input::new();
     let mut session = new_session();
-    let mut turns = u64::MAX;
+    let mut turns = most;
     while turns > 0 {
         turns -= 1;
         let turned = turn(image, answer, bytes, out, line, chunk, input, session);
         let next = turned.input;
         let left = turned.session;
-        let said = turned.said;
         input = next;
         session = left;
-        say(out, said);
-        if next.over {
-            return;
+        if !say(out, turned.said) {
+            return Ended {
+                ending: Ending::Unwritten,
+                session,
+            };
         }
+        if next.over {
+            return Ended {
+                ending: Ending::Over,
+                session,
+            };
+        }
+    }
+    Ended {
+        ending: Ending::Worn,
+        session,
     }
 }
 
@@ -103,12 +134,17 @@ fn main() {
     let mut out = [0u8; 2080];
     let mut line = [0u8; ROOM];
     let mut chunk = [0u8; 4096];
-    play(
+    let ended = play(
         &mut image,
         &mut answer,
         &mut bytes,
         &mut out,
         &mut line,
         &mut chunk,
+        u64::MAX,
     );
+    let ending = ended.ending;
+    if let Ending::Unwritten = ending {
+        io::write_all(STDERR, b"corridor: the output can't be written\n");
+    }
 }

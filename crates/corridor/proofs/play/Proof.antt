@@ -1,15 +1,17 @@
 -- `corridor::play` meets its contract. Assumes nothing.
 use borrow.Author.Needs.{needs}
-use Rattle.corridor.specs.Reading.{Reads}
 use Rattle.corridor.specs.Session.{Within}
+use Rattle.corridor.specs.Reading.{Reads, Reached}
+use Rattle.corridor.proofs.Shell.{reached-start, reached-next, reached-end}
 use Rattle.corridor.proofs.play.Statement.{statement}
 use Rattle.corridor.proofs.play.Tie as tie
 
 abbrev Inv-loop : tie.InvT-loop
-Inv-loop image₀ answer₀ bytes₀ out₀ line₀ chunk₀ input₀ session₀ turns₀ image answer bytes out line chunk input session turns = Reads input × Within session
+Inv-loop image₀ answer₀ bytes₀ out₀ line₀ chunk₀ most input₀ session₀ turns₀ image answer bytes out line chunk input session turns =
+    Reads input × Within session × Reached session input image line chunk
 
 abbrev μ-loop : tie.MeasureT-loop
-μ-loop image₀ answer₀ bytes₀ out₀ line₀ chunk₀ input₀ session₀ turns₀ image answer bytes out line chunk input session turns = turns
+μ-loop image₀ answer₀ bytes₀ out₀ line₀ chunk₀ most input₀ session₀ turns₀ image answer bytes out line chunk input session turns = turns
 
 pub play-spec : {M : Type 1} → statement M
 play-spec =
@@ -19,11 +21,12 @@ play-spec =
     μ-loop
     (λ c κs. search needs)
     (λ c κs. search needs)
-    (λ c. search needs)
+    (λ c. (search needs, search needs, search (reached-start, c .new-session .ensures .1)))
     (λ c. search needs)
     (λ c κs. search needs)
     (λ c κs. search needs)
     (λ c. search needs)
+    (λ c. search reached-end)
     (λ c. search needs)
-    (λ c. search needs)
+    (λ c. (search needs, search needs, search reached-next))
     (λ c. search needs))

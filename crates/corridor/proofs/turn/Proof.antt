@@ -11,5 +11,5 @@ turn-spec =
     (λ c κs. search needs)
     (λ c κs. search needs)
     (λ c κs. search needs)
-    (λ c. (search needs, λ t stands. search turn-answers))
-    (λ c. (search needs, λ t stands. search turn-waits)))
+    (λ c. (search needs, record { on = (λ t stands. search turn-answers) }))
+    (λ c. (search needs, record { on = (λ t stands. search turn-waits) })))
