@@ -18,7 +18,7 @@ use Rattle.lines.specs.Told.{partsOf}
 use Rattle.corridor.specs.Played.{Board, opening, played, answerTo, boardAfter}
 use Rattle.corridor.specs.Session.{boardOf, Answers}
 use Rattle.corridor.specs.Reading.{Typing, came, told, typed, start, boardAtEnd, firstLine, hasNewline, behindLine, lineRoom, kept, ahead, Reads, Refills, Begins, Moves, Advances, Stands, Turns, Goes, Reached, AtEnd}
-use Rattle.corridor.specs.declared.Turned.{Turned}
+use Rattle.corridor.specs.declared.State.{State}
 use Rattle.corridor.specs.declared.input.Input.{Input}
 use Rattle.corridor.specs.declared.session.Session.{Session}
 use Rattle.corridor.specs.declared.session.Responded.{Responded}
@@ -296,7 +296,7 @@ typed-more t [] xs = refl
 typed-more t (b ∷ a) xs = typed-more (cond (eqb b 10) (came t [] true) (came t (b ∷ []) false)) a xs
 
 pub reached-start : (s : Session) (i : Input) (img buf chunk : List ℕ) → ((xs : List ℕ) → boardOf s xs ≡ opening)
-    → (i .at ≡ 0) × (i .end ≡ 0) × (i .len ≡ 0) → Reached s i img buf chunk
+    → (i .at ≡ 0) × (i .end ≡ 0) × (i .len ≡ 0) → Reached (record { input = i; session = s; said = 0 }) img buf chunk
 unfolding slice
 reached-start s i img buf chunk opened (at, end, len) =
     record {
@@ -306,52 +306,54 @@ reached-start s i img buf chunk opened (at, end, len) =
       same = ap₂ (λ (f e : ℕ). typed start (drop f (take e chunk))) at end;
     }
 
-module _ (s : Session) (i : Input) (r : Turned) (img img′ buf buf′ chunk chunk′ out : List ℕ) (reached : Reached s i img buf chunk)
-    (goes : Goes s i img buf chunk r img′ buf′ chunk′ out) where
+module _ (s r : State) (img img′ buf buf′ chunk chunk′ out : List ℕ) (reached : Reached s img buf chunk) (goes : Goes s img buf chunk r img′ buf′ chunk′ out) where
+  abbrev was : List ℕ
+  was = ahead (s .input) chunk
+
   abbrev here : Typing
   here = reached .typing
 
-  turns : Turns here (ahead i chunk) r img′ buf′ chunk′ out
+  turns : Turns here was r img′ buf′ chunk′ out
   turns = goes .on here (reached .stands)
 
-  pub reached-next : r .input .over ≡ false → Reached (r .session) (r .input) img′ buf′ chunk′
+  pub reached-next : r .input .over ≡ false → Reached r img′ buf′ chunk′
   unfolding indexOf typed
   reached-next going =
-      split (eqb (length (ahead i chunk)) 0)
-      (λ e. let a : ahead i chunk ≡ [] = none-there (ahead i chunk) (eqb-true (length (ahead i chunk)) 0 e) in
-      let same : came here (firstLine (ahead i chunk)) (hasNewline (ahead i chunk) || r .input .over) ≡ typed start (reached .all) =
-      ap₂ (λ (x : List ℕ) (o : Bool). came here (firstLine x) (hasNewline x || o)) a going
+      split (eqb (length was) 0)
+      (λ e. let none : was ≡ [] = none-there was (eqb-true (length was) 0 e) in
+      let same : came here (firstLine was) (hasNewline was || r .input .over) ≡ typed start (reached .all) =
+      ap₂ (λ (x : List ℕ) (o : Bool). came here (firstLine x) (hasNewline x || o)) none going
       ∙ nothing-came here
-      ∙ ap (typed here) (sym a)
+      ∙ ap (typed here) (sym none)
       ∙ reached .same in
       record {
         all = reached .all ++ ahead (r .input) chunk′;
-        typing = came here (firstLine (ahead i chunk)) (hasNewline (ahead i chunk) || r .input .over);
+        typing = came here (firstLine was) (hasNewline was || r .input .over);
         stands = turns .stands;
         same = ap (λ (u : Typing). typed u (ahead (r .input) chunk′)) same ∙ sym (typed-more start (reached .all) (ahead (r .input) chunk′));
       })
-      (λ e. let behind : ahead (r .input) chunk′ ≡ behindLine (ahead i chunk) = turns .moves .behind (eqb-false (length (ahead i chunk)) 0 e) in
-      let ended : (hasNewline (ahead i chunk) || r .input .over) ≡ hasNewline (ahead i chunk) =
-      ap (λ (o : Bool). hasNewline (ahead i chunk) || o) going ∙ or-false (hasNewline (ahead i chunk)) in
+      (λ e. let behind : ahead (r .input) chunk′ ≡ behindLine was = turns .moves .behind (eqb-false (length was) 0 e) in
+      let ended : (hasNewline was || r .input .over) ≡ hasNewline was =
+      ap (λ (o : Bool). hasNewline was || o) going ∙ or-false (hasNewline was) in
       record {
         all = reached .all;
-        typing = came here (firstLine (ahead i chunk)) (hasNewline (ahead i chunk) || r .input .over);
+        typing = came here (firstLine was) (hasNewline was || r .input .over);
         stands = turns .stands;
         same =
-            ap₂ (λ (o : Bool) (x : List ℕ). typed (came here (firstLine (ahead i chunk)) o) x) ended behind
-            ∙ sym (typed-line here (ahead i chunk))
+            ap₂ (λ (o : Bool) (x : List ℕ). typed (came here (firstLine was) o) x) ended behind
+            ∙ sym (typed-line here was)
             ∙ reached .same;
       })
 
-  pub reached-end : r .input .over ≡ true → AtEnd (r .session) img′
+  pub reached-end : r .input .over ≡ true → AtEnd r img′
   unfolding indexOf typed boardAtEnd
   reached-end over =
-      let a : ahead i chunk ≡ [] = none-there (ahead i chunk) (turns .moves .over over) in
-      let same : here ≡ typed start (reached .all) = ap (typed here) (sym a) ∙ reached .same in
+      let none : was ≡ [] = none-there was (turns .moves .over over) in
+      let same : here ≡ typed start (reached .all) = ap (typed here) (sym none) ∙ reached .same in
       record {
         all = reached .all;
         board =
             turns .stands .board
-            ∙ ap₂ (λ (x : List ℕ) (o : Bool). came here (firstLine x) (hasNewline x || o) .board) a over
+            ∙ ap₂ (λ (x : List ℕ) (o : Bool). came here (firstLine x) (hasNewline x || o) .board) none over
             ∙ ap (λ (u : Typing). came u [] true .board) same;
       }

@@ -10,7 +10,7 @@ use Rattle.corridor.specs.Played.{Board, opening, answerTo, boardAfter}
 use Rattle.corridor.specs.Session.{boardOf}
 use Rattle.corridor.specs.declared.Ending.{Ending}
 use Rattle.corridor.specs.declared.Ending.the-variants as ending
-use Rattle.corridor.specs.declared.Turned.{Turned}
+use Rattle.corridor.specs.declared.State.{State}
 use Rattle.corridor.specs.declared.input.Input.{Input}
 use Rattle.corridor.specs.declared.session.Session.{Session}
 
@@ -106,31 +106,31 @@ pub record Stands (t : Typing) (s : Session) (i : Input) (img buf : List ℕ) : 
   pub line : take (i .len) buf ≡ kept (t .line)
 
 -- One turn, from t with a ahead: the line ends with a newline, or with the input.
-pub record Turns (t : Typing) (a : List ℕ) (r : Turned) (img buf chunk out : List ℕ) : Type 0 where
+pub record Turns (t : Typing) (a : List ℕ) (r : State) (img buf chunk out : List ℕ) : Type 0 where
   pub stands : Stands (came t (firstLine a) (hasNewline a || r .input .over)) (r .session) (r .input) img buf
   pub text : take (r .said) out ≡ told t (firstLine a) (hasNewline a || r .input .over)
   pub moves : Moves a (r .input) chunk
 
 -- One turn, wherever the program stands: img, buf and chunk before it, img′, buf′, chunk′ and out behind it.
-pub record Goes (s : Session) (i : Input) (img buf chunk : List ℕ) (r : Turned) (img′ buf′ chunk′ out : List ℕ) : Type 0 where
-  pub on : (t : Typing) → Stands t s i img buf → Turns t (ahead i chunk) r img′ buf′ chunk′ out
+pub record Goes (s : State) (img buf chunk : List ℕ) (r : State) (img′ buf′ chunk′ out : List ℕ) : Type 0 where
+  pub on : (t : Typing) → Stands t (s .session) (s .input) img buf → Turns t (ahead (s .input) chunk) r img′ buf′ chunk′ out
 
 -- ---- a whole run
 
 -- There is an input behind which the program stands, but for what is ahead. (No contract says which bytes a read gives, so that none can
 -- name it.)
-pub record Reached (s : Session) (i : Input) (img buf chunk : List ℕ) : Type 0 where
+pub record Reached (s : State) (img buf chunk : List ℕ) : Type 0 where
   pub all : List ℕ
   pub typing : Typing
-  pub stands : Stands typing s i img buf
-  pub same : typed typing (ahead i chunk) ≡ typed start all
+  pub stands : Stands typing (s .session) (s .input) img buf
+  pub same : typed typing (ahead (s .input) chunk) ≡ typed start all
 
 -- It stands behind the end of an input.
-pub record AtEnd (s : Session) (img : List ℕ) : Type 0 where
+pub record AtEnd (s : State) (img : List ℕ) : Type 0 where
   pub all : List ℕ
-  pub board : boardOf s img ≡ boardAtEnd all
+  pub board : boardOf (s .session) img ≡ boardAtEnd all
 
-abbrev pub Ends : Ending → Session → List ℕ → Type 0
+abbrev pub Ends : Ending → State → List ℕ → Type 0
 Ends ending.Over s img = AtEnd s img
 Ends ending.Unwritten s img = Unit
 Ends ending.Worn s img = Unit

@@ -30,8 +30,8 @@ fn say(out: &[u8], n: usize) -> bool
     io::write_all(STDOUT, &out[0..n])
 }
 
-// What a turn leaves: so many bytes at the start of `out` are to be written.
-struct Turned {
+// What is kept from turn to turn, and how many bytes at the start of `out` the last turn left to be written.
+struct State {
     input: Input,
     session: Session,
     said: usize,
@@ -45,27 +45,26 @@ fn turn(
     out: &mut Out,
     line: &mut Line,
     chunk: &mut Chunk,
-    input: Input,
-    session: Session,
-) -> Turned
-    requires { ⌜ Reads input ⌝ }
-    requires { ⌜ Within session ⌝ }
+    state: State,
+) -> State
+    requires { ⌜ (Reads (state .input)) × (Within (state .session)) ⌝ }
     ensures { λ r. ⌜ (Reads (r .input)) × (Within (r .session)) × (r .said ≤ 2080) ⌝ }
-    ensures { λ r. ⌜ Goes session input (now (image .entry)) (now (line .entry)) (now (chunk .entry)) r (now (image .exit)) (now (line .exit)) (now (chunk .exit)) (now (out .exit)) ⌝ }
+    ensures { λ r. ⌜ Goes state (now (image .entry)) (now (line .entry)) (now (chunk .entry)) r (now (image .exit)) (now (line .exit)) (now (chunk .exit)) (now (out .exit)) ⌝ }
 {
+    let input = state.input;
+    let session = state.session;
     let moved = input.advance(line, chunk);
     if moved.whole {
         let responded = respond(image, answer, bytes, out, line, moved.len, session);
-        let input = moved.answered();
-        let session = responded.session;
-        let said = responded.length;
-        return Turned {
-            input,
-            session,
-            said,
+        let next = moved.answered();
+        let left = responded.session;
+        return State {
+            input: next,
+            session: left,
+            said: responded.length,
         };
     }
-    Turned {
+    State {
         input: moved,
         session,
         said: 0,
@@ -81,7 +80,7 @@ enum Ending {
 
 struct Ended {
     ending: Ending,
-    session: Session,
+    state: State,
 }
 
 // Plays to the end of the input, and writes what each turn says. A proved loop has to end, and nothing says that the input does: so the turns
@@ -96,34 +95,35 @@ fn play(
     most: u64,
 ) -> Ended
     requires { ⌜ most ≡ 18446744073709551615 ⌝ }
-    ensures { λ r. ⌜ Ends (r .ending) (r .session) (now (image .exit)) ⌝ }
+    ensures { λ r. ⌜ Ends (r .ending) (r .state) (now (image .exit)) ⌝ }
 {
-    let mut input = Input::new();
-    let mut session = new_session();
+    let input = Input::new();
+    let session = new_session();
+    let mut state = State {
+        input,
+        session,
+        said: 0,
+    };
     let mut turns = most;
     while turns > 0 {
         turns -= 1;
-        let turned = turn(image, answer, bytes, out, line, chunk, input, session);
-        let next = turned.input;
-        let left = turned.session;
-        input = next;
-        session = left;
-        if !say(out, turned.said) {
+        state = turn(image, answer, bytes, out, line, chunk, state);
+        if !say(out, state.said) {
             return Ended {
                 ending: Ending::Unwritten,
-                session,
+                state,
             };
         }
-        if next.over {
+        if state.input.over {
             return Ended {
                 ending: Ending::Over,
-                session,
+                state,
             };
         }
     }
     Ended {
         ending: Ending::Worn,
-        session,
+        state,
     }
 }
 

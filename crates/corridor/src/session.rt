@@ -28,6 +28,7 @@ ghost use Rattle.lines.specs.Said.{AskedFits};
 ghost use Rattle.lines.specs.Told.{tells, AnswerFits};
 ghost use Rattle.corridor.specs.Played.{opening, obeyed, played, takes, lends, loses, hears, sees, answers};
 ghost use Rattle.corridor.specs.Session.{boardOf, Within, Acts, Answers};
+ghost use Rattle.corridor.specs.Reading.{lineRoom};
 
 // All that is kept from line to line beside the image itself: how many bytes the image has, how many are lent for an answer, and the two
 // records.
@@ -230,7 +231,7 @@ pub fn respond(
     len: usize,
     session: Session,
 ) -> Responded
-    requires { ⌜ len ≤ 16399 ⌝ }
+    requires { ⌜ len ≤ lineRoom ⌝ }
     requires { ⌜ Within session ⌝ }
     ensures { λ r. ⌜ Answers (boardOf session (now (image .entry))) (take len (now (line .entry))) r (now (image .exit)) (now (out .exit)) ⌝ }
 {
