@@ -24,9 +24,9 @@ from pathlib import Path
 sys.dont_write_bytecode = True
 
 from compare import PIECE_LINES, compare_long, first_difference, readable
-from lines import Player, play
-from rules import COUNTS, RULES, forget_counts, never_reached, table
-from scenes import fresh_script, stored_script
+from lines.player import Player
+from rules import RULES, never_reached, play_and_count, table
+from scenes.stored import fresh_script, stored_script
 
 ROOT = Path(__file__).resolve().parent.parent
 
@@ -68,17 +68,19 @@ def folders_of(arguments):
 
 
 def stored_files(folders):
-    """Makes script and answers anew, and counts the rules they reach."""
+    """Makes script and answers anew; gives each file with its content, and how
+    often the script reaches each rule."""
     text = stored_script()
-    forget_counts()
-    _, answers = play(text)
+    _, answers, counts = play_and_count(text)
     given = b"".join(answer + b"\n" for answer in answers if answer is not None)
-    return [(folder / name, content) for folder in folders
-            for name, content in (("stdin", text), ("stdout", given))]
+    files = [(folder / name, content) for folder in folders
+             for name, content in (("stdin", text), ("stdout", given))]
+    return files, counts
 
 
 def write(arguments):
-    for path, content in stored_files(folders_of(arguments)):
+    files, _ = stored_files(folders_of(arguments))
+    for path, content in files:
         path.parent.mkdir(parents=True, exist_ok=True)
         path.write_bytes(content)
         print(f"{path}: {len(content)} bytes")
@@ -103,11 +105,11 @@ def verdict(path, content):
 
 
 def check(arguments):
-    files = stored_files(folders_of(arguments))
-    print(table(COUNTS))
+    files, counts = stored_files(folders_of(arguments))
+    print(table(counts))
     print()
     good = True
-    unreached = never_reached(COUNTS)
+    unreached = never_reached(counts)
     print(f"{len(RULES) - len(unreached)} of {len(RULES)} rules reached")
     for key in unreached:
         print(f"never reached: {key}: {RULES[key]}")

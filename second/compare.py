@@ -4,9 +4,8 @@ import multiprocessing
 import subprocess
 import sys
 
-from lines import play
-from rules import COUNTS, forget_counts, never_reached
-from scenes import fresh_script
+from rules import RULES, never_reached, play_and_count
+from scenes.stored import fresh_script
 
 PIECE_LINES = 4000
 DIFFERENCES_PRINTED = 5
@@ -38,9 +37,7 @@ def compare_piece(work):
     """Sends one piece to the program; gives what came of it."""
     seed, lines_wished, program = work
     text = fresh_script(seed, lines_wished)
-    forget_counts()
-    lines, due = play(text)
-    counts = dict(COUNTS)
+    lines, due, counts = play_and_count(text)
     run = subprocess.run([program], input=text, stdout=subprocess.PIPE, check=False)
     given = run.stdout.split(b"\n")
     if given[-1] == b"":
@@ -75,7 +72,7 @@ def compare_long(program, lines_wished, seed, jobs):
     work = [(piece_seed, min(lines_wished, PIECE_LINES), program)
             for piece_seed in piece_seeds(seed, lines_wished)]
     lines = answers = differences = 0
-    total = dict.fromkeys(COUNTS, 0)
+    total = dict.fromkeys(RULES, 0)
     with multiprocessing.Pool(jobs) as pool:
         for done, (piece, sent, compared, differing, counts) in enumerate(
                 pool.imap_unordered(compare_piece, work), 1):

@@ -1,6 +1,6 @@
 """Images for the examples and the scripts."""
 
-from tag import LAYOUTS
+from tag.layout import LAYOUTS
 
 LAYOUT_OF_SIZE = {layout.size: layout for layout in LAYOUTS.values()}
 

@@ -5,9 +5,9 @@ out here come from the document's words; they are held against the second tag
 whenever the examples are made, and a difference stops the making.
 """
 
-from images import access_byte, build_image
-from lines import Player
-from tag import bits_of, bytes_of, crc_a, with_crc
+from scenes.images import access_byte, build_image
+from lines.player import Player
+from tag.bits import bits_of, bytes_of, crc_a, with_crc
 
 NAK0 = "answer 4 00"
 NAK1 = "answer 4 01"

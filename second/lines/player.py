@@ -1,0 +1,84 @@
+"""Plays the tag on lines.
+
+`Player.answer(line)` takes one line, as bytes and without its newline, and
+gives the answering line, or None for a line that is skipped.
+"""
+
+from lines.reading import BadLine, command_of, is_skipped
+from tag.bits import bytes_of
+from tag.calls import EVENTS, Refused, Tag
+
+HELP = ("commands: image HEX, buffer N, field, frame BITS HEX, parity BITS HEX, "
+        "start, stop, send HH, read ack, read nak, event N HH, show, help")
+
+
+class Player:
+    """One answer for each line; a method for each command word."""
+
+    def __init__(self):
+        self.tag = Tag()        # "Before the first `image` line the image is empty."
+        self.buffer_length = 1024
+
+    def answer(self, line):
+        if is_skipped(line):
+            return None
+        try:
+            word, arguments = command_of(line)
+            return getattr(self, f"play_{word}")(*arguments).encode("ascii")
+        except BadLine:
+            return b"error"
+        except Refused as refused:
+            return f"refused {refused.number}".encode("ascii")
+
+    def play_image(self, data=b""):
+        self.tag.take_image(data)
+        return f"image {len(data)}"
+
+    def play_buffer(self, length):
+        self.buffer_length = length
+        return f"buffer {length}"
+
+    def play_field(self):
+        self.tag.lose_field()
+        return "field"
+
+    def play_frame(self, bit_count, data=b""):
+        return self.play_radio(bit_count, data, parity_good=True)
+
+    def play_parity(self, bit_count, data=b""):
+        return self.play_radio(bit_count, data, parity_good=False)
+
+    def play_radio(self, bit_count, data, parity_good):
+        answer = self.tag.frame(bit_count, data, parity_good, self.buffer_length)
+        return written(f"answer {len(answer)}", bytes_of(answer)) if answer else "silence"
+
+    def play_start(self):
+        return self.play_event(EVENTS.index("start"))
+
+    def play_stop(self):
+        return self.play_event(EVENTS.index("stop"))
+
+    def play_send(self, byte):
+        return self.play_event(EVENTS.index("send"), byte)
+
+    def play_read(self, acknowledged):
+        return self.play_event(EVENTS.index("read-ack" if acknowledged else "read-nak"))
+
+    def play_event(self, number, byte=None):
+        result = self.tag.event(number, byte)
+        if result is None:
+            return "done"
+        if isinstance(result, bool):
+            return "ack" if result else "nak"
+        return f"byte {result:02X}"
+
+    def play_show(self):
+        return written("image", self.tag.image.everything())
+
+    def play_help(self):
+        return HELP
+
+
+def written(word, data):
+    """A word and bytes behind it: "`image` alone where it is empty"."""
+    return f"{word} {bytes(data).hex().upper()}" if data else word

@@ -1,0 +1,17 @@
+"""Two sides of one tag: each stores while the other is anywhere."""
+
+from rules.naming import PHASES, STATES, each
+
+RULES = {
+    **each("one-image.radio-stores", [f"bus-in-{phase}" for phase in PHASES],
+           "Two sides of one tag: a WRITE while the other side is {}"),
+    **each("one-image.bus-stores", [f"radio-in-{state}" for state in STATES],
+           "Two sides of one tag: a stop stores while the other side is {}"),
+}
+
+
+def met(step):
+    if step.command[0] == "WRITE" and step.acked:
+        yield f"one-image.radio-stores/bus-in-{step.phase}"
+    elif step.event == "stop" and step.before.tag.bus.gathered:
+        yield f"one-image.bus-stores/radio-in-{step.state}"

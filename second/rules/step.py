@@ -1,0 +1,116 @@
+"""A step: how the tag stood, the line it got, its answer, how it then stands."""
+
+from functools import cached_property
+from typing import NamedTuple
+
+from lines.player import Player
+from lines.reading import BadLine, command_of, is_skipped
+from state import put_state, state_of
+from tag.bits import bits_of, bytes_of
+from tag.calls import EVENTS
+from tag.frames import ACK, COMMANDS, NAK, Frame
+
+ACK_ANSWER = b"answer 4 %02X" % sum(bit << place for place, bit in enumerate(ACK))
+NAK_ANSWERS = {b"answer 4 %02X" % sum(bit << place for place, bit in enumerate(NAK[number])): number
+               for number in NAK}
+
+
+class FieldMemory(NamedTuple):
+    """What a rule may ask about the field so far, beyond what the tag keeps."""
+
+    first_read_found_on: bool = True    # the first read answered found the counter on
+    same_stay: bool = True              # ACTIVE was not entered again since that read
+
+    def after(self, step):
+        """The memory when this step is over."""
+        before, after = step.before.tag.radio, step.after.tag.radio
+        if after.read_answered and not before.read_answered:
+            return FieldMemory(step.image.layout is not None and step.image.counter_on(), True)
+        if after.state == "ACTIVE" and before.state != "ACTIVE":
+            return self._replace(same_stay=False)
+        return self
+
+
+class Step:
+    """What the observers look at."""
+
+    def __init__(self, before, line, answer, after, memory):
+        self.before, self.line, self.answer, self.after = before, line, answer, after
+        self.memory = memory
+        self.image = before.tag.image
+        self.word, self.arguments = words_and_arguments(line)
+        self.refused = int(answer[8:]) if answer.startswith(b"refused ") else None
+        self.nak = NAK_ANSWERS.get(answer)
+        self.acked = answer == ACK_ANSWER
+        self.frame = self.event = self.byte = None
+        if self.word in ("frame", "parity"):
+            self.read_frame(self.word == "frame", *self.arguments)
+        elif self.word in EVENT_OF_WORD or self.word == "event":
+            self.read_event(*self.arguments)
+
+    def read_frame(self, parity_good, bit_count, data=b""):
+        self.bit_count, self.data = bit_count, data
+        if self.refused is None:
+            self.frame = Frame(bits_of(data)[:bit_count], parity_good)
+
+    def read_event(self, *arguments):
+        if self.word == "event":
+            self.number, self.byte = arguments
+        else:
+            self.number = EVENTS.index(EVENT_OF_WORD[self.word](*arguments))
+            self.byte = arguments[0] if self.word == "send" else None
+        if self.refused is None:
+            self.event = EVENTS[self.number]
+
+    @property
+    def state(self):
+        """The radio's state before the step."""
+        return self.before.tag.radio.state
+
+    @property
+    def phase(self):
+        """The two wires' phase before the step."""
+        return self.before.tag.bus.phase
+
+    @cached_property
+    def command(self):
+        """The name and the arguments of a command that a tag in ACTIVE was
+        given whole; None and nothing for any other step."""
+        if not self.frame or self.state != "ACTIVE" or self.nak == 1 or len(self.frame.bits) < 24:
+            return None, ()
+        data = bytes_of(self.frame.bits)[:-2]
+        name, length = COMMANDS.get(data[0], (None, None))
+        if len(self.frame.bits) % 8 or len(data) != length:
+            return None, ()
+        return name, tuple(data[1:])
+
+
+EVENT_OF_WORD = {
+    "start": lambda: "start", "stop": lambda: "stop", "send": lambda byte: "send",
+    "read": lambda acknowledged: "read-ack" if acknowledged else "read-nak"}
+
+
+def words_and_arguments(line):
+    """The command word and its arguments; None for a bad line."""
+    try:
+        return command_of(line)
+    except BadLine:
+        return None, []
+
+
+class Watched:
+    """A player whose every step is looked at."""
+
+    def __init__(self):
+        self.player, self.before = Player(), Player()
+        self.memory = FieldMemory()
+
+    def play(self, line):
+        """The answer to a line, and the step; no step for a line that is skipped."""
+        if is_skipped(line):
+            return None, None
+        put_state(self.before, state_of(self.player))
+        answer = self.player.answer(line)
+        step = Step(self.before, line, answer, self.player, self.memory)
+        self.memory = self.memory.after(step)
+        return answer, step

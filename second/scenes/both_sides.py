@@ -1,0 +1,53 @@
+"""Both sides of one image."""
+
+from rules.naming import PHASES, STATES
+from scenes.bus import bus_write
+from scenes.images import access_byte
+
+
+def both_sides(s, size):
+    """Each side stores while the other is anywhere; field loss leaves the bus alone."""
+    dice = s.dice
+    s.image(size)
+    for phase in dice.shuffled(PHASES):
+        place = s.any_place()
+        s.to_phase(phase)
+        if phase == "write" and dice.one_in(2):
+            s.send(*dice.bytes(3))
+        page = dice.one_of([4, 5, 15, 16, s.layout.lock_page - 1])
+        s.active()
+        s.command(0xA2, page, *dice.four())
+        if dice.one_in(2):
+            s.command(0x30, page)
+        if phase == "read":
+            s.read(2)
+        s.say("field")
+        s.event(2, dice.one_of([0xA0, 0xA1, 0x40, dice.byte()]))
+        s.event(dice.between(3, 4))
+        s.stop()
+        bus_write(s, place, 2)
+    for state in dice.shuffled(STATES):
+        s.reach(state)
+        bus_write(s, 0x4010 + dice.below(0x80), dice.between(1, 4))
+        s.say("show" if dice.one_in(6) else "field")
+
+
+def settings_by_wire(s, size):
+    """The two wires change locks, settings and password under a tag in ACTIVE."""
+    dice = s.dice
+    s.image(size, auth0=8, access=access_byte(prot=1))
+    layout = s.layout
+    for page, data in dice.shuffled([
+            (layout.settings[0], [0, 0, 0, dice.one_of([4, 6, 0xFF])]),
+            (layout.settings[1], [dice.one_of([0x00, 0x90, 0x10, 0xC0]), 0, 0, 0]),
+            (layout.pwd, dice.four()), (layout.pack, dice.four()),
+            (layout.lock_page, [1, 0, 0, 0])]):
+        s.active(authenticated=dice.one_in(2))
+        s.address(0x4000 + 4 * page)
+        s.send(*data)
+        s.stop()
+        s.command(0x30, dice.between(4, 9))
+        s.active()
+        s.command(0xA2, dice.one_of([7, 8, 16]), *dice.four())
+        s.active()
+        s.command(0x1B, *s.password())

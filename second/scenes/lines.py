@@ -1,0 +1,79 @@
+"""Lines, good and bad."""
+
+
+BAD_LINES = [
+    b"hello", b"shows", b"sho", b"imag", b"image00", b"Image", b"SHOW", b"fielD", b"FRAME 7 52",
+    b"\tshow", b"show\t", b"frame\t7 52", b"frame 7\t52", b"# \tno comment"[1:],
+    b"show\r", b"\r", b"frame 7 52\r", b"sho\0w", b"\0", b"frame 7 52\0", b"sh\xf6w", b"\xff",
+    b"frame 7 5\xb2", b"frame  7 52", b"frame 7  52", b"read  ack", b" show", b"  ", b" ", b" # x",
+    b"show ", b"image ", b"frame 7 ", b"frame 7 52 ", b"start ", b"frame 7 5", b"image 0",
+    b"image 001", b"send A", b"event 0 0", b"frame 7 5G", b"image 0x", b"send -1", b"send 0x",
+    b"frame +7 52", b"frame -7 52", b"frame 7. 52", b"frame 0x7 52", b"frame seven 52", b"buffer x",
+    b"event A 00", b"frame 52", b"frame", b"parity", b"buffer", b"send", b"read", b"event",
+    b"event 0", b"event 00", b"show 1", b"help me", b"field 1", b"start 00", b"stop 00",
+    b"image 00 00", b"frame 16 93 20", b"parity 7 52 00", b"send A0 A1", b"read ack nak", b"event 2 A0 00",
+    b"buffer 1 2", b"read Ack", b"read NAK", b"read no", b"read 1", b"send A0A1", b"send a0a10",
+    b"event 2 A0A1", b"frame 65536", b"frame 65536 00", b"buffer 65536", b"event 65536 00",
+    b"frame 99999 00", b"buffer 70000", b"frame 000007 52", b"frame 000000", b"buffer 001024",
+    b"event 000000 00", b"event 100000 00", b"frame 4294967303 52", b"frame 18446744073709551623 52",
+    b"buffer 1025", b"buffer 65535", b"buffer 1026", b"buffer 01025"]
+
+GOOD_LINES = [
+    b"help", b"", b"#", b"# a comment", b"#show", b"# \t\r\0 \xff odd bytes", b"buffer 1024",
+    b"buffer 01024", b"frame 00007 52", b"frame 7 26", b"frame 65535", b"frame 65535 00", b"frame 0",
+    b"parity 0", b"frame 00000", b"parity 007 26", b"send 0a", b"send aB", b"event 00000 00",
+    b"event 1 ff", b"event 03 00", b"event 4 00", b"show"]
+
+
+def odd_lines(s, amount):
+    """Bad lines among good ones: a bad one changes nothing."""
+    for _ in range(amount):
+        s.say(s.dice.one_of(BAD_LINES))
+        if s.dice.one_in(3):
+            s.say(s.dice.one_of(GOOD_LINES))
+
+
+def every_odd_line(s):
+    s.image(45)
+    s.active()
+    for line in s.dice.shuffled(BAD_LINES + GOOD_LINES):
+        s.say(line)
+
+
+def spoiled_lines(s, amount):
+    """Good lines with one character changed, left out, or put in."""
+    dice = s.dice
+    for _ in range(amount):
+        line = dice.one_of([b"frame 7 52", b"read ack", b"read nak", b"send A0", b"event 2 A0", b"stop",
+                            b"start", b"buffer 1024", b"help", b"field", b"parity 16 9320"])
+        place = dice.below(len(line) + 1)
+        put = bytes([dice.one_of([0x20, 0x09, 0x30, 0x41, 0x61, 0x67, dice.byte()])])
+        put = b"" if put == b"\n" else put
+        s.say(line[:place] + put + line[place + dice.below(2):])
+    s.usual_buffer()
+
+
+def any_spoiled_lines(s):
+    spoiled_lines(s, s.dice.between(20, 60))
+
+
+def image_limits(s):
+    """Images of 1,024 bytes and of more."""
+    s.raw_image(s.dice.bytes(1024))
+    s.say("image " + "5A" * 1025)
+    s.say("image " + "5a" * s.dice.between(1026, 1100))
+    s.say("show")
+    s.image(45)
+
+
+def long_lines(s):
+    """The longest lines there are, and longer ones."""
+    dice = s.dice
+    s.image(45)
+    s.say("parity 65535 " + "A5" * 8192)
+    s.say("frame 512 " + "00" * 8193)
+    s.say("frame 7 " + "00" * 8194)
+    s.say("parity 65535 " + "A5" * 8192 + "0")
+    s.say("#" + " long" * dice.between(3300, 4000))
+    s.say("show" + " " * dice.between(16395, 17000))
+    s.say("frame 7 52")

@@ -1,0 +1,44 @@
+"""Bits, bytes and CRC_A."""
+
+BITS_OF_BYTE = [[value >> place & 1 for place in range(8)] for value in range(256)]
+
+
+def bits_of(data):
+    """Bytes as bits: "bits packed least significant first"."""
+    return [bit for byte in data for bit in BITS_OF_BYTE[byte]]
+
+
+def bytes_of(bits):
+    """Bits as bytes: "Unused high bits of the last byte are zero." """
+    if not bits:
+        return b""
+    numeral = "".join(map(str, reversed(bits)))
+    return int(numeral, 2).to_bytes((len(bits) + 7) // 8, "little")
+
+
+def crc_a(bits):
+    """The sixteen check bits that follow these bits.
+
+    "CRC_A: polynomial x^16+x^12+x^5+1, reflected, start 6363h, low byte
+    first". Reflected, the terms 1, x^5 and x^12 stand at places 15, 10 and 3.
+    """
+    register = bits_of([0x63, 0x63])
+    for bit in bits:
+        fed_back = bit ^ register[0]
+        register = register[1:] + [fed_back]
+        register[10] ^= fed_back
+        register[3] ^= fed_back
+    return register
+
+
+def with_crc(data):
+    """These bytes as bits, their CRC_A behind them."""
+    bits = bits_of(data)
+    return bits + crc_a(bits)
+
+
+def exclusive_or(data):
+    result = 0
+    for byte in data:
+        result ^= byte
+    return result

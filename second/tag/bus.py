@@ -1,0 +1,119 @@
+"""The two wires."""
+
+WINDOW_START = 0x4000
+
+
+class Bus:
+    """The two wires, with the bus record.
+
+    The phases: rest, device (a start was seen), high and low (an address is
+    expected), write, read, deaf. `counter` is the address counter, `gathered`
+    the data bytes of an unfinished write, which begins at the counter.
+    """
+
+    def __init__(self, image):
+        self.image = image
+        self.phase = "rest"
+        self.counter = WINDOW_START
+        self.high = 0
+        self.gathered = ()
+
+    def in_window(self, address):
+        """"The window is 4000h to 4000h+4N-1." """
+        return WINDOW_START <= address < self.image.layout.window_end
+
+    def place_of(self, number):
+        """Where data byte `number` of this write belongs.
+
+        "only the low six address bits advance, rolling over within the 64-byte
+        page"
+        """
+        page = self.counter // 64 * 64
+        return page + (self.counter + number) % 64
+
+    def start(self):
+        """"Start: expect the device byte and drop an unfinished write, the
+        counter staying at the address sent." """
+        self.gathered = ()
+        self.phase = "device"
+
+    def stop(self):
+        """"Stop stores the gathered bytes [...]; if any were gathered, the
+        counter becomes the place after the last data byte, rolled within its
+        page. The bus is then at rest." """
+        if self.gathered:
+            self.store()
+            self.counter = self.place_of(len(self.gathered))
+        self.gathered = ()
+        self.phase = "rest"
+
+    def store(self):
+        """"the gathered bytes, latest for each place, except image bytes 0-9
+        and places past the window"; "Locks and password don't bind this side." """
+        for number, byte in enumerate(self.gathered):
+            place = self.place_of(number)
+            offset = place - WINDOW_START
+            if offset >= 10 and self.in_window(place):
+                self.image.replace_byte(offset, byte)
+
+    def send(self, byte):
+        """A byte sent; True if it is acknowledged."""
+        by_phase = {"device": self.send_device, "high": self.send_high,
+                    "low": self.send_low, "write": self.send_data}
+        if self.phase in by_phase:
+            return by_phase[self.phase](byte)
+        # "a byte sent at any other time isn't acknowledged, and in a read makes
+        # the tag deaf"
+        if self.phase == "read":
+            self.phase = "deaf"
+        return False
+
+    def send_device(self, byte):
+        """"A0h and A1h are acknowledged, others not, and the tag is then deaf
+        until start or stop." """
+        self.phase = {0xA0: "high", 0xA1: "read"}.get(byte, "deaf")
+        return self.phase != "deaf"
+
+    def send_high(self, byte):
+        """"After A0h: high address acknowledged" """
+        self.high = byte
+        self.phase = "low"
+        return True
+
+    def send_low(self, byte):
+        """"low acknowledged exactly if the address is in the window, setting
+        the counter, else deaf with the counter kept" """
+        address = 256 * self.high + byte
+        if not self.in_window(address):
+            self.phase = "deaf"
+            return False
+        self.counter = address
+        self.phase = "write"
+        return True
+
+    def send_data(self, byte):
+        """"Data bytes are acknowledged and gathered" """
+        self.gathered += (byte,)
+        return True
+
+    def read(self, acknowledged):
+        """A byte read; the reader's ACK asks for more."""
+        if self.phase != "read":
+            # "A read at any other time gives FFh and changes nothing"
+            return 0xFF
+        if not acknowledged:
+            # "A read without ACK makes the tag deaf."
+            self.phase = "deaf"
+        return self.byte_at_counter()
+
+    def byte_at_counter(self):
+        """"After A1h each read gives the counter's byte and advances, last to
+        first; a counter outside the window counts as 4000h. The PWD and PACK
+        pages read as zeros." """
+        if not self.in_window(self.counter):
+            self.counter = WINDOW_START
+        page, place = divmod(self.counter - WINDOW_START, 4)
+        self.counter += 1
+        if self.counter == self.image.layout.window_end:
+            self.counter = WINDOW_START
+        return self.image.shown(page)[place]

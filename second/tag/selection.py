@@ -1,0 +1,55 @@
+"""Frames in READY1 and READY2: anticollision and SELECT."""
+
+from tag.bits import bits_of, bytes_of, with_crc
+
+
+def in_ready(radio, frame):
+    """"READY1 takes code 93h over the five bytes 88h, UID 0-2, BCC0; READY2
+    takes 95h over UID 3-6, BCC1." """
+    if radio.state == "READY1":
+        code, five = 0x93, radio.image.first_five()
+    else:
+        code, five = 0x95, radio.image.second_five()
+    if frame.parity_good and is_select(frame.bits, code, five):
+        return selected(radio)
+    if frame.parity_good and is_anticollision(frame.bits, code, five):
+        # "The answer is the other 40-n, without CRC."
+        return bits_of(five)[told_bits(frame.bits):]
+    # "Anything else, bad parity and a non-match among them: silence, wait state."
+    return radio.silent()
+
+
+def is_select(bits, code, five):
+    """"Second byte 70h: five right bytes and CRC"."""
+    return bits == with_crc([code, 0x70] + five)
+
+
+def is_anticollision(bits, code, five):
+    """"the frame must be 16+n bits, its last n the first n of the forty"."""
+    known = told_bits(bits)
+    return known is not None and bits == bits_of([code, second_byte(bits)]) + bits_of(five)[:known]
+
+
+def told_bits(bits):
+    """"Second byte 20h-67h, low half at most 7: n = 8 x (high half - 2) + low
+    half"; None for another second byte."""
+    second = second_byte(bits)
+    high, low = divmod(second, 16)
+    if 0x20 <= second <= 0x67 and low <= 7:
+        return 8 * (high - 2) + low
+    return None
+
+
+def second_byte(bits):
+    """The second byte; of a frame that has none, 0."""
+    return bytes_of(bits[8:16])[0] if len(bits) >= 16 else 0
+
+
+def selected(radio):
+    """"five right bytes and CRC answer 04h (to READY2) or 00h (to ACTIVE),
+    each with CRC." """
+    if radio.state == "READY1":
+        radio.state = "READY2"
+        return with_crc([0x04])
+    radio.state = "ACTIVE"
+    return with_crc([0x00])
