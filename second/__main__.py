@@ -7,6 +7,9 @@ usage: python3 second COMMAND
                           whether the files are as generated
   long [LINES] [SEED]     sends fresh scripts (1,000,000 lines, a seed from the
                           clock) to the program and compares every answer
+  wrong [NAME]            tries tags that are wrong in one thing each, and names those
+                          that the stored script doesn't notice; with a name, or a
+                          part of one, says where those are noticed
   piece SEED              prints one piece of a long run, by the seed it names
   answers                 reads lines and prints the second tag's answers
   help                    prints this
@@ -14,7 +17,7 @@ usage: python3 second COMMAND
 options:
   --into DIR              write, check: DIR/stdin and DIR/stdout, not the stored files
   --program PATH          long: this program in place of ./corridor
-  --jobs N                long: this many processes at a time (2)
+  --jobs N                long, wrong: this many processes at a time (2)
 """
 
 import sys
@@ -27,6 +30,7 @@ from compare import PIECE_LINES, compare_long, first_difference, readable
 from lines.player import Player
 from rules import RULES, never_reached, play_and_count, table
 from scenes.stored import fresh_script, stored_script
+from wrong.command import try_all, try_named
 
 ROOT = Path(__file__).resolve().parent.parent
 
@@ -137,6 +141,18 @@ def long(arguments):
     return 0 if compare_long(str(program), lines, seed, jobs) else 1
 
 
+def wrong(arguments):
+    plain, options = options_of(arguments, ["--jobs"])
+    if len(plain) > 1:
+        raise WrongUse(f"{plain[1]} is one word too many; put a name that has spaces in quotes")
+    jobs = whole_number(options.get("--jobs", "2"), 1)
+    if not plain:
+        return 0 if try_all(jobs) else 1
+    if not try_named(plain[0]):
+        raise WrongUse(f"no wrong tag has {plain[0]} in its name")
+    return 0
+
+
 def piece(arguments):
     if len(arguments) != 1:
         raise WrongUse("piece takes one seed")
@@ -161,8 +177,8 @@ def help_text(arguments):
     return 0
 
 
-COMMANDS = {"write": write, "check": check, "long": long, "piece": piece, "answers": answers,
-            "help": help_text}
+COMMANDS = {"write": write, "check": check, "long": long, "wrong": wrong, "piece": piece,
+            "answers": answers, "help": help_text}
 
 
 def main(arguments):

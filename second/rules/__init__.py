@@ -36,11 +36,19 @@ OBSERVERS = [lines.met, bad_lines.met, refusals.met, waiting.met, selection.met,
              reads.met, counter.met, password.met, writes.met, locks.met, bus.met, both_sides.met]
 
 
-def rules_met(step, line):
+def rules_met(step, line, observers=OBSERVERS):
     """The keys of the rules that a step meets; `step` is None for a skipped line."""
     if step is None:
         return list(lines.of_skipped(line))
-    return [key for observer in OBSERVERS for key in observer(step)]
+    return [key for observer in observers for key in observer(step)]
+
+
+def observers_of(key):
+    """Those that can find this rule."""
+    groups = [lines, bad_lines, refusals, waiting, selection, active, reads, counter, password, writes,
+              both_sides]
+    found = [group.met for group in groups if key in group.RULES]
+    return found or [locks.met, bus.met]
 
 
 def play_and_count(text):

@@ -21,7 +21,6 @@ class Refused(Exception):
     and every buffer untouched." """
 
     def __init__(self, number):
-        super().__init__(number)
         self.number = number
 
 

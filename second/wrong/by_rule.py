@@ -1,0 +1,108 @@
+"""Wrong by rule: in each step that meets a rule, a wrong tag does something else."""
+
+from array import array
+
+from rules import observers_of, rules_met
+from rules.both_sides import RULES as BOTH_SIDES
+from rules.step import Watched
+from state import put_state, state_of
+from wrong.trial import play_until_noticed
+from wrong.twists import BUS, LINES, RADIO
+
+ANOTHER_ANSWER = "another answer"
+TWISTS = {**RADIO, **BUS, **LINES}
+
+
+class SkippedStep:
+    """The step of a line that is skipped: no word, no frame, no event."""
+
+    word = event = None
+    command = None, ()
+
+    def __init__(self, player):
+        self.after = player
+
+
+def twists_of(step):
+    """The twists that are sensible for a step: those of its side.
+
+    An image of another length answers to nothing, so nothing of the tag's
+    records can be seen of it.
+    """
+    if step.after.tag.image.layout is None:
+        return LINES
+    if step.word in ("frame", "parity"):
+        return {**RADIO, **LINES}
+    if step.word in ("start", "stop", "send", "read", "event"):
+        return {**BUS, **LINES}
+    return TWISTS
+
+
+def another_answer(answer):
+    """An answer that looks like one, but isn't this."""
+    if answer is None:
+        return b"error"
+    if answer == b"error":
+        return None
+    if answer in (b"ack", b"nak"):
+        return b"nak" if answer == b"ack" else b"ack"
+    if answer == b"silence":
+        return b"answer 4 00"
+    return answer[:-1] + (b"1" if answer.endswith(b"0") else b"0")
+
+
+class Catalogue:
+    """At which lines each wrong tag goes wrong: (key, twist) to places."""
+
+    def __init__(self):
+        self.places = {}
+
+    def look(self, place, step, keys, before, after, player):
+        """Called for each line of the right tag's play."""
+        keys, step = set(keys), step or SkippedStep(player)
+        effective = [name for name, twist in twists_of(step).items() if twist(step, before, after)]
+        for key in keys:
+            for name in [ANOTHER_ANSWER] + effective:
+                self.note(key, name, place)
+        for key in keys & set(BOTH_SIDES):
+            for name, twist in TWISTS.items():
+                if name not in effective and twist(step, before, after):
+                    self.note(key, name, place)
+
+    def note(self, key, name, place):
+        self.places.setdefault(f"{key} {name}", array("I")).append(place)
+
+
+class TwistedTag:
+    """The right tag, but for one twist in each step that meets one rule."""
+
+    def __init__(self, record, key, name):
+        self.record, self.key, self.name = record, key, name
+        self.watched, self.observers = Watched(), observers_of(key)
+
+    def stand(self, place):
+        put_state(self.watched.player, self.record.states[place])
+        self.watched.memory = self.record.memories[place]
+
+    def stands_as(self, place):
+        return (self.watched.memory == self.record.memories[place]
+                and state_of(self.watched.player) == self.record.states[place])
+
+    def play(self, line):
+        answer, step = self.watched.play(line)
+        if self.key not in rules_met(step, line, self.observers):
+            return answer
+        if self.name == ANOTHER_ANSWER:
+            return another_answer(answer)
+        after = state_of(self.watched.player)
+        before = state_of(self.watched.before) if step else after
+        twisted = TWISTS[self.name](step or SkippedStep(self.watched.player), before, after)
+        if twisted:
+            put_state(self.watched.player, twisted)
+        return answer
+
+
+def try_rule(record, places, name):
+    """The first Difference of a wrong tag by its name, `key twist`; or None."""
+    key, twist = name.split(" ", 1)
+    return play_until_noticed(record, places, TwistedTag(record, key, twist))

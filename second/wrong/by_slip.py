@@ -1,0 +1,149 @@
+"""Wrong by slip: the tag and the lines with one slip in their source."""
+
+import ast
+import copy
+import sys
+from array import array
+from pathlib import Path
+from types import ModuleType
+
+from state import put_state, state_of
+from wrong.slips import number_nodes, slips_in
+from wrong.trial import Difference, answer_in_time, play_until_noticed
+
+HERE = Path(__file__).resolve().parent.parent
+PACKAGES = ["tag", "lines"]
+
+
+class Sources:
+    """The modules of the tag and of the lines, each after those it needs."""
+
+    def __init__(self):
+        files = [file for package in PACKAGES for file in sorted((HERE / package).glob("*.py"))]
+        trees = {module_of(file): number_nodes(ast.parse(file.read_text("utf-8"))) for file in files}
+        self.trees = dict(in_order(trees))
+        self.codes = {name: compile(tree, name, "exec") for name, tree in self.trees.items()}
+
+    def slips(self):
+        return {slip.name: slip for name, tree in self.trees.items() for slip in slips_in(name, tree)}
+
+    def player_with(self, slip):
+        """A player of its own modules, one of them with the slip."""
+        return load({**self.codes, slip.module: slip.code()})["lines.player"].Player()
+
+
+def module_of(file):
+    name = ".".join(file.relative_to(HERE).with_suffix("").parts)
+    return name.removesuffix(".__init__")
+
+
+def in_order(trees):
+    """Modules after those that they import from."""
+    left = dict(trees)
+    while left:
+        ready = [name for name, tree in left.items() if not imported_by(tree) & set(left) - {name}]
+        for name in ready:
+            yield name, left.pop(name)
+
+
+def imported_by(tree):
+    return {node.module for node in ast.walk(tree) if isinstance(node, ast.ImportFrom)}
+
+
+def load(codes, names=()):
+    """Runs modules from their code, beside those that are loaded already.
+
+    `names` are known in each of them.
+    """
+    kept = {name: sys.modules.get(name) for name in codes}
+    made = {}
+    try:
+        for name, code in codes.items():
+            made[name] = sys.modules[name] = ModuleType(name)
+            made[name].__dict__.update(names)
+            exec(code, made[name].__dict__)
+        return made
+    finally:
+        for name, module in kept.items():
+            if module:
+                sys.modules[name] = module
+            else:
+                del sys.modules[name]
+
+
+class Marked(ast.NodeTransformer):
+    """Puts a mark before each statement, so that a run tells which it ran."""
+
+    def __init__(self, module):
+        self.module = module
+
+    def generic_visit(self, node):
+        super().generic_visit(node)
+        for field in ("body", "orelse", "finalbody"):
+            statements = getattr(node, field, None)
+            if isinstance(statements, list):
+                setattr(node, field, [part for statement in statements
+                                      for part in (self.mark(statement), statement)])
+        return node
+
+    def mark(self, statement):
+        call = f"ran__({(self.module, statement.number)!r})"
+        return ast.copy_location(ast.parse(call).body[0], statement)
+
+
+def places_run(sources, record):
+    """For each statement, by module and number, the lines at which it runs.
+
+    A statement that runs while the modules are loaded may make a difference
+    at any line: it has them all.
+    """
+    ran = set()
+    marked = {name: compile(ast.fix_missing_locations(Marked(name).visit(copy.deepcopy(tree))), name, "exec")
+              for name, tree in sources.trees.items()}
+    player = load(marked, {"ran__": ran.add})["lines.player"].Player()
+    everywhere = array("I", range(len(record.lines)))
+    places = dict.fromkeys(ran, everywhere)
+    for place, line in enumerate(record.lines):
+        ran.clear()
+        player.answer(line)
+        for statement in ran:
+            if statement not in places:
+                places[statement] = array("I")
+            if places[statement] is not everywhere:
+                places[statement].append(place)
+    return places
+
+
+class SlippedTag:
+    """A tag with a slip, made to stand as the right one stood."""
+
+    def __init__(self, record, player):
+        self.record, self.player = record, player
+        self.play = player.answer
+
+    def stand(self, place):
+        put_state(self.player, self.record.states[place])
+
+    def stands_as(self, place):
+        try:
+            return state_of(self.player) == self.record.states[place]
+        except AttributeError:      # the slip left a part of what is kept unset
+            return False
+
+
+def try_slip(record, places, sources, slip):
+    """The first Difference of a tag with this slip; or None."""
+    making = Making(record, sources, slip)
+    fault = answer_in_time(making, b"")
+    return Difference(0, fault) if fault else play_until_noticed(record, places, making.tag)
+
+
+class Making:
+    """The making of a tag with a slip, which may crash as a line may."""
+
+    def __init__(self, record, sources, slip):
+        self.record, self.sources, self.slip = record, sources, slip
+
+    def play(self, line):
+        self.tag = SlippedTag(self.record, self.sources.player_with(self.slip))
+        self.tag.stand(0)

@@ -1,0 +1,4 @@
+"""Wrong tags that answer every script as the right tag does, with the reason."""
+
+MEANINGLESS = {
+}

@@ -1,0 +1,228 @@
+"""What a step might do instead of the right thing.
+
+A twist takes a step, the state before it and the state after it, and gives the
+state that a wrong tag has after it, or None where the twist has nothing to
+change. Each names the part of what is kept that it touches: `left` is the part
+left as it was where the step changes it, the others change it where the step
+keeps it, or change it otherwise. A part is touched only where it means
+something: an address byte while the low one is expected, and so on.
+"""
+
+from tag.bus import WINDOW_START
+
+AWAKE = ("READY1", "READY2", "ACTIVE")
+NOT_LISTENING = ("rest", "deaf")
+
+
+def left(part):
+    """The part is left as it was before."""
+    def twist(step, before, after):
+        old = getattr(before, part)
+        return after._replace(**{part: old}) if old != getattr(after, part) else None
+    return twist
+
+
+# ---- The radio side
+
+def other_wait_state(step, before, after):
+    """HALT in place of IDLE, IDLE in place of HALT."""
+    other = {"IDLE": "HALT", "HALT": "IDLE"}.get(after.radio)
+    return after._replace(radio=other) if other else None
+
+
+def falls_asleep(step, before, after):
+    """To the wait state, where the tag is awake after the step."""
+    if after.radio not in AWAKE:
+        return None
+    return after._replace(radio="HALT" if after.woken_from_halt else "IDLE", authenticated=False)
+
+
+def wakes(step, before, after):
+    """To READY1, where the tag waits before and after the step."""
+    if before.radio in AWAKE or after.radio in AWAKE:
+        return None
+    return after._replace(radio="READY1", woken_from_halt=after.radio == "HALT")
+
+
+def other_wait_kept(step, before, after):
+    """The wait state that is kept for later is the other."""
+    if after.radio not in AWAKE:
+        return None
+    return after._replace(woken_from_halt=not after.woken_from_halt)
+
+
+def authentication_turned(step, before, after):
+    """Authenticated without a password, or no longer authenticated."""
+    if after.radio != "ACTIVE" or after.authenticated != before.authenticated:
+        return None
+    return after._replace(authenticated=not after.authenticated)
+
+
+def read_answered_turned(step, before, after):
+    """The field's chance to count is used up, or is there again."""
+    if after.read_answered != before.read_answered:
+        return None
+    return after._replace(read_answered=not after.read_answered)
+
+
+def written_all_the_same(step, before, after):
+    """A WRITE replaces the page, whatever it is and whether it is allowed."""
+    name, arguments = step.command
+    if name != "WRITE" or arguments[0] >= len(after.pages):
+        return None
+    page, *data = arguments
+    pages = after.pages[:page] + (tuple(data),) + after.pages[page + 1:]
+    return after._replace(pages=pages) if pages != after.pages else None
+
+
+def counts_all_the_same(step, before, after):
+    """A READ or FAST_READ counts where it should not; from FFFFFFh on to 0."""
+    if step.command[0] not in ("READ", "FAST_READ") or after.tail != before.tail:
+        return None
+    value = int.from_bytes(bytes(after.tail[:3]), "little") + 1
+    return after._replace(tail=tuple((value % 2 ** 24).to_bytes(3, "little")) + after.tail[3:])
+
+
+def failure_counted_all_the_same(step, before, after):
+    """A PWD_AUTH counts as failed where it should not."""
+    if step.command[0] != "PWD_AUTH" or after.tail != before.tail:
+        return None
+    return after._replace(tail=after.tail[:3] + ((after.tail[3] + 1) % 256,))
+
+
+def failures_forgotten(step, before, after):
+    """A PWD_AUTH sets the failed count to 0 where it should not."""
+    if step.command[0] != "PWD_AUTH" or after.tail != before.tail or after.tail[3] == 0:
+        return None
+    return after._replace(tail=after.tail[:3] + (0,))
+
+
+# ---- The two wires
+
+def phase_left(step, before, after):
+    """The phase is left as it was; rest and deaf are not told apart by any event."""
+    if before.phase == after.phase or {before.phase, after.phase} == set(NOT_LISTENING):
+        return None
+    return after._replace(phase=before.phase)
+
+
+def becomes_deaf(step, before, after):
+    if after.phase in NOT_LISTENING:
+        return None
+    return after._replace(phase="deaf", gathered=())
+
+
+def goes_on_in(phase):
+    """Goes on as in this phase, where the tag should listen to nothing."""
+    def twist(step, before, after):
+        return after._replace(phase=phase) if after.phase in NOT_LISTENING else None
+    return twist
+
+
+def counter_moves_on(step, before, after):
+    """The address counter goes to the next place, last to first."""
+    if after.counter != before.counter:
+        return None
+    end = WINDOW_START + 4 * len(after.pages)
+    here = after.counter if WINDOW_START <= after.counter < end else WINDOW_START
+    return after._replace(counter=here + 1 if here + 1 < end else WINDOW_START)
+
+
+def counter_goes_back(step, before, after):
+    """The address counter goes to 4000h; a counter outside counts as that."""
+    end = WINDOW_START + 4 * len(after.pages)
+    if after.counter != before.counter or not WINDOW_START < after.counter < end:
+        return None
+    return after._replace(counter=WINDOW_START)
+
+
+def high_byte_left(step, before, after):
+    if after.phase != "low" or after.high == before.high:
+        return None
+    return after._replace(high=before.high)
+
+
+def other_high_byte(step, before, after):
+    """The high address byte is another, where the low one is expected."""
+    if after.phase != "low":
+        return None
+    return after._replace(high=0x00 if after.high == 0x40 else 0x40)
+
+
+def gathered_dropped(step, before, after):
+    if not after.gathered or after.gathered != before.gathered:
+        return None
+    return after._replace(gathered=())
+
+
+def gathers_all_the_same(step, before, after):
+    """A byte sent is gathered where it should not be."""
+    if step.event != "send" or after.gathered != before.gathered:
+        return None
+    return after._replace(gathered=after.gathered + (step.byte,))
+
+
+def stores_all_the_same(step, before, after):
+    """The gathered bytes are stored: without a stop, or at places where none is."""
+    gathered = max(before.gathered, after.gathered, key=len)
+    if step.event is None or not gathered:
+        return None
+    image = [byte for page in after.pages for byte in page] + list(after.tail)
+    for number, byte in enumerate(gathered):
+        offset = before.counter // 64 * 64 + (before.counter + number) % 64 - WINDOW_START
+        if 0 <= offset < len(image):
+            image[offset] = byte
+    pages = tuple(tuple(image[at:at + 4]) for at in range(0, len(image), 4))
+    changed = after._replace(pages=pages[:-1], tail=pages[-1])
+    return changed if changed != after else None
+
+
+# ---- The lines
+
+def buffer_set_back(step, before, after):
+    """The buffer has its first length again."""
+    if after.buffer_length == 1024 or after.buffer_length != before.buffer_length:
+        return None
+    return after._replace(buffer_length=1024)
+
+
+RADIO = {
+    "state left": left("radio"),
+    "other wait state": other_wait_state,
+    "falls asleep": falls_asleep,
+    "wakes": wakes,
+    "other wait kept": other_wait_kept,
+    "authentication left": left("authenticated"),
+    "authentication turned": authentication_turned,
+    "read answered left": left("read_answered"),
+    "read answered turned": read_answered_turned,
+    "pages left": left("pages"),
+    "written all the same": written_all_the_same,
+    "tail left": left("tail"),
+    "counts all the same": counts_all_the_same,
+    "failure counted all the same": failure_counted_all_the_same,
+    "failures forgotten": failures_forgotten,
+}
+
+BUS = {
+    "phase left": phase_left,
+    "becomes deaf": becomes_deaf,
+    "expects a device byte": goes_on_in("device"),
+    "goes on reading": goes_on_in("read"),
+    "goes on writing": goes_on_in("write"),
+    "counter left": left("counter"),
+    "counter moves on": counter_moves_on,
+    "counter goes back": counter_goes_back,
+    "high byte left": high_byte_left,
+    "other high byte": other_high_byte,
+    "gathered left": left("gathered"),
+    "gathered dropped": gathered_dropped,
+    "gathers all the same": gathers_all_the_same,
+    "stored left": left("pages"),
+    "stores all the same": stores_all_the_same,
+}
+
+LINES = {
+    "buffer left": left("buffer_length"),
+    "buffer set back": buffer_set_back,
+}
