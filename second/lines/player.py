@@ -7,6 +7,7 @@ gives the answering line, or None for a line that is skipped.
 from lines.reading import BadLine, command_of, is_skipped
 from tag.bits import bytes_of
 from tag.calls import EVENTS, Refused, Tag
+from tag.frames import SILENCE
 
 HELP = ("commands: image HEX, buffer N, field, frame BITS HEX, parity BITS HEX, "
         "start, stop, send HH, read ack, read nak, event N HH, show, help")
@@ -50,7 +51,7 @@ class Player:
 
     def play_radio(self, bit_count, data, parity_good):
         answer = self.tag.frame(bit_count, data, parity_good, self.buffer_length)
-        return written(f"answer {len(answer)}", bytes_of(answer)) if answer else "silence"
+        return "silence" if answer == SILENCE else written(f"answer {len(answer)}", bytes_of(answer))
 
     def play_start(self):
         return self.play_event(EVENTS.index("start"))

@@ -12,9 +12,9 @@ class BadLine(Exception):
 
 
 def lines_of(text):
-    """The lines of an input: "a last line without its newline counts"."""
-    lines = text.split(b"\n")
-    return lines if lines[-1] else lines[:-1]
+    """The lines of an input: "a last line without its newline counts". Behind a
+    last newline there is an empty line, which is skipped."""
+    return text.split(b"\n")
 
 
 def is_skipped(line):
@@ -36,8 +36,9 @@ def command_of(line):
         raise BadLine("no such command")
     if b"" in rest:
         raise BadLine("a space too many")
-    least, kinds = ARGUMENTS[word]
-    if not least <= len(rest) <= len(kinds):
+    kinds = ARGUMENTS[word]
+    missing = len(kinds) - len(rest)
+    if missing not in ((0, 1) if word in LAST_MAY_BE_MISSING else (0,)):
         raise BadLine("a word is missing or too many")
     return word.decode("ascii"), [kind(word) for kind, word in zip(kinds, rest)]
 
@@ -74,7 +75,8 @@ def buffer_of(word):
 
 def byte_of(word):
     """"HH is the byte sent": a word is never empty, so these are two digits."""
-    return bytes_in(word, 1)[0]
+    (byte,) = bytes_in(word, 1)
+    return byte
 
 
 def reader_bit_of(word):
@@ -84,10 +86,12 @@ def reader_bit_of(word):
     return word == b"ack"
 
 
-# How many words must follow each command word, and what they are.
+# What the words are that follow each command word.
 ARGUMENTS = {
-    b"image": (0, [image_of]), b"buffer": (1, [buffer_of]), b"field": (0, []),
-    b"frame": (1, [number_of, frame_of]), b"parity": (1, [number_of, frame_of]),
-    b"start": (0, []), b"stop": (0, []), b"send": (1, [byte_of]), b"read": (1, [reader_bit_of]),
-    b"event": (2, [number_of, byte_of]), b"show": (0, []), b"help": (0, []),
+    b"image": [image_of], b"buffer": [buffer_of], b"field": [], b"frame": [number_of, frame_of],
+    b"parity": [number_of, frame_of], b"start": [], b"stop": [], b"send": [byte_of],
+    b"read": [reader_bit_of], b"event": [number_of, byte_of], b"show": [], b"help": [],
 }
+
+# "`image` alone: none", "`HEX` of a frame may be missing".
+LAST_MAY_BE_MISSING = (b"image", b"frame", b"parity")

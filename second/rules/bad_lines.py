@@ -1,6 +1,7 @@
 """Lines that are answered by `error` and change nothing."""
 
-from lines.reading import ARGUMENTS, LARGEST_BUFFER, LARGEST_FRAME, LARGEST_IMAGE, LARGEST_NUMBER, LONGEST_LINE
+from lines.reading import (ARGUMENTS, LARGEST_BUFFER, LARGEST_FRAME, LARGEST_IMAGE, LARGEST_NUMBER,
+                           LAST_MAY_BE_MISSING, LONGEST_LINE)
 
 RULES = {
     "error/unknown-word": "an unknown word",
@@ -63,10 +64,10 @@ def wrong_spaces(words):
 def wrong_word(words):
     if words[0] not in ARGUMENTS:
         return "capital" if words[0].lower() in ARGUMENTS else "unknown-word"
-    least, kinds = ARGUMENTS[words[0]]
-    if len(words) - 1 < least:
+    missing = len(ARGUMENTS[words[0]]) - (len(words) - 1)
+    if missing > (words[0] in LAST_MAY_BE_MISSING):
         return "missing-word"
-    return "extra-word" if len(words) - 1 > len(kinds) else None
+    return "extra-word" if missing < 0 else None
 
 
 def wrong_arguments(word, rest):

@@ -28,7 +28,7 @@ def kind_of_page(layout, page):
         return "at-N" if page == layout.size else "above-N"
     if page < 4:
         return f"page-{page}"
-    if page in layout.user_pages:
+    if page < layout.lock_page:
         return "user-static" if page < 16 else "user-dynamic"
     return {layout.lock_page: "lock-page", layout.settings[0]: "settings-1",
             layout.settings[1]: "settings-2", layout.pwd: "pwd", layout.pack: "pack"}[page]

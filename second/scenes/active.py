@@ -7,14 +7,22 @@ from tag.frames import COMMANDS, REQA, WUPA
 
 
 def active_silences(s, wait):
-    """Frames that are no whole bytes, or under three of them."""
+    """Frames that are no whole bytes, or under three of them: they lead to the
+    wait state and end authentication."""
     dice = s.dice
     s.image(dice.size())
     whole = with_crc([0x60])
     for bits in dice.shuffled([REQA, WUPA, bits_of([0x35])[:7], bits_of([0x60]), whole[:16],
                                whole[:23], whole + [0], whole[8:], bits_of(dice.bytes(9))[:65]]):
-        s.reach("ACTIVE", wait)
-        s.frame(bits, parity_good=not dice.one_in(4))
+        for authenticated in (False, True):
+            s.reach("ACTIVE", wait)
+            if authenticated:
+                s.authenticate()
+            s.frame(bits, parity_good=not dice.one_in(4))
+            if authenticated:
+                s.reach("ACTIVE")       # straight on: another silence would end it
+            else:
+                s.look_at_radio()
 
 
 def bad_frames_in_active(s, wait):
@@ -31,6 +39,8 @@ def bad_frames_in_active(s, wait):
                 (flipped(with_crc(data), dice.below(8 * length + 16)), False),
                 (with_crc(longer), True), (flipped(with_crc(longer), dice.below(30)), True)]):
             s.reach("ACTIVE", wait)
+            if dice.one_in(4):
+                s.authenticate()
             s.frame(bits, parity_good)
         if shorter:
             s.reach("ACTIVE", wait)
@@ -52,3 +62,13 @@ def any_bad_frames(s):
         active_silences(s, wait)
     else:
         bad_frames_in_active(s, wait)
+
+
+def stored(s):
+    for wait in ("IDLE", "HALT"):
+        active_silences(s, wait)
+        active_silences(s, wait)
+        bad_frames_in_active(s, wait)
+
+
+OF_ANY_KIND = [any_bad_frames]

@@ -10,32 +10,27 @@ def both_sides(s, size):
     dice = s.dice
     s.image(size)
     for phase in dice.shuffled(PHASES):
-        place = s.any_place()
-        s.to_phase(phase)
-        if phase == "write" and dice.one_in(2):
-            s.send(*dice.bytes(3))
-        page = dice.one_of([4, 5, 15, 16, s.layout.lock_page - 1])
-        s.active()
-        s.command(0xA2, page, *dice.four())
-        if dice.one_in(2):
-            s.command(0x30, page)
-        if phase == "read":
-            s.read(2)
-        s.say("field")
-        s.event(2, dice.one_of([0xA0, 0xA1, 0x40, dice.byte()]))
-        s.event(dice.between(3, 4))
-        s.stop()
-        bus_write(s, place, 2)
+        for look in (s.look_at_bus, s.look_at_counter):
+            s.active()
+            s.to_phase(phase)
+            if phase == "write":
+                s.send(*dice.bytes(dice.below(3)))
+            page = dice.one_of([4, 5, 15, 16, s.layout.lock_page - 1])
+            s.obey(0xA2, page, *dice.four())
+            s.command(0x3A, page, page)
+            look()
+            s.look_at_radio()
+        bus_write(s, s.any_place(), 2)
     for state in dice.shuffled(STATES):
         s.reach(state)
-        bus_write(s, 0x4010 + dice.below(0x80), dice.between(1, 4))
-        s.say("show" if dice.one_in(6) else "field")
+        bus_write(s, 0x4010 + dice.below(0x60), dice.between(1, 4))
+        s.look_at_radio()
 
 
 def settings_by_wire(s, size):
     """The two wires change locks, settings and password under a tag in ACTIVE."""
     dice = s.dice
-    s.image(size, auth0=8, access=access_byte(prot=1))
+    s.image(size, auth0=8, access=access_byte(prot=1, counter_on=1))
     layout = s.layout
     for page, data in dice.shuffled([
             (layout.settings[0], [0, 0, 0, dice.one_of([4, 6, 0xFF])]),
@@ -51,3 +46,11 @@ def settings_by_wire(s, size):
         s.command(0xA2, dice.one_of([7, 8, 16]), *dice.four())
         s.active()
         s.command(0x1B, *s.password())
+
+
+def stored_of_size(s, size):
+    both_sides(s, size)
+    settings_by_wire(s, size)
+
+
+OF_ANY_SIZE = [both_sides, settings_by_wire]

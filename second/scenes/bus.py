@@ -4,18 +4,44 @@ from rules.naming import PHASES
 
 
 def events_by_phase(s, size):
-    """Each event in each phase, and what it leaves behind."""
+    """Each event in each phase, and what it leaves behind: the phase shows by what
+    fits it, the counter by reading on, and what was gathered by a stop."""
     dice = s.dice
     s.image(size)
     for phase in dice.shuffled(PHASES):
         for number in dice.shuffled(range(5)):
+            for look in (s.look_at_bus, s.look_at_counter, s.stop):
+                s.to_phase(phase)
+                if phase == "write" and dice.one_in(2):
+                    s.send(*dice.bytes(dice.between(1, 4)))
+                s.event(number, dice.one_of([0xA0, 0xA1, 0x40, dice.byte()]))
+                look()
+            s.look_at_counter()
+
+
+def deaf_after_the_last_read(s, size):
+    """A read without ACK makes the tag deaf: later reads give FFh, a byte isn't
+    acknowledged, and the counter stays where the last read left it."""
+    s.image(size)
+    for place in [s.any_place() for _ in range(6)] + [s.layout.window_end - 1, s.layout.window_end - 2, 0x4000]:
+        s.address(place)
+        s.read_on(2)
+        s.event(3)
+        s.event(4)
+        s.event(3)
+        s.look_at_silent_bus()
+        s.look_at_counter()
+
+
+def other_hands(s):
+    """Events written with leading zeros, and bytes in small letters, in each phase."""
+    s.image(45)
+    for phase in s.dice.shuffled(PHASES):
+        for line in ("event 0001 00", "event 00002 a0", "event 2 aB", "send ab", "send aB",
+                     "event 003 0a", "event 04 00", "event 00000 00"):
             s.to_phase(phase)
-            if phase == "write" and dice.one_in(2):
-                s.send(*dice.bytes(dice.between(1, 4)))
-            s.event(number, dice.one_of([0xA0, 0xA1, 0x40, dice.byte()]))
-            s.event(2, dice.one_of([0xA0, 0xA1, 0x40, dice.byte()]))
-            s.event(dice.one_of([3, 4]))
-    s.stop()
+            s.say(line)
+            s.look_at_bus()
 
 
 def device_bytes(s):
@@ -23,10 +49,11 @@ def device_bytes(s):
     dice = s.dice
     s.image(dice.size())
     for byte in [0xA0, 0xA1, 0xA2, 0xA3, 0x20, 0x21, 0x50, 0x51, dice.byte()]:
-        s.start()
-        s.send(byte, 0x40, 0x10)
-        s.read(2)
-    s.stop()
+        for look in (lambda: s.send(0x40, 0x10, 0x5A), lambda: s.read(3), s.stop):
+            s.start()
+            s.send(byte)
+            look()
+            s.look_at_bus()
 
 
 def addresses(s, size):
@@ -37,24 +64,33 @@ def addresses(s, size):
     for address in dice.shuffled([0x4000, 0x3FFF, end - 1, end, end + 1, 0x0000, 0xFFFF,
                                   dice.below(0x3FFF), dice.between(end + 1, 0xFFFE), s.any_place(),
                                   s.any_place() ^ 0x8000, s.any_place() % 0x4000]):
+        if not s.bus.in_window(address):
+            s.address(dice.between(0x4010, 0x4060))     # the counter that is then kept
         s.address(address)
-        if not s.layout.window_end > address >= 0x4000:
-            s.send(0x40, dice.byte())       # deaf: not acknowledged, not gathered
+        if s.bus.phase == "deaf":
+            s.look_at_silent_bus()
+            s.send(0x40, dice.byte())       # not acknowledged, not gathered
             s.read(2)
-        if dice.one_in(3):
+            s.stop()
+            s.look_at_counter()
+            s.address(address)
+            s.send(0x10)                    # no low address byte any more
+        if dice.one_in(2):
             s.stop()
         s.read_on(dice.between(1, 3))
-    s.stop()
+        s.look_at_bus()
 
 
 def bus_write(s, place, amount):
-    """Writes some bytes, and reads on from where the counter then is."""
+    """Writes some bytes. Then the bus is at rest, another stop has nothing left to
+    store, and the next read is from where the counter then is."""
     s.address(place)
     s.send(*s.dice.bytes(amount))
     s.stop()
-    if s.dice.one_in(3):
-        s.stop()                    # has nothing left to store
+    s.look_at_silent_bus()
+    s.stop()
     s.read_on(s.dice.between(1, 3))
+    s.look_at_silent_bus()
     s.stop()
 
 
@@ -67,8 +103,15 @@ def bus_writes(s, size):
     for place in [0x4000 + dice.below(10), end - 1, end - 1 - dice.below(8), s.any_place(),
                   0x4000 + 4 * dice.one_of([layout.lock_page, *layout.settings, layout.pwd, layout.pack])]:
         bus_write(s, place, dice.between(1, 7))
+    s.say("show")
     bus_write(s, 0x4000, 12)
     bus_write(s, end - 1, 1)
+    bus_write(s, end - 3, 7)
+    s.say("show")
+    # From the last places to shortly before the page's end: stored a second time,
+    # they would roll over into the window.
+    bus_write(s, end - 4, (end - 1) // 64 * 64 + 62 - (end - 4))
+    s.say("show")
     bus_write(s, 0x4000 + 4 * layout.lock_page, 20)
 
 
@@ -78,6 +121,16 @@ def long_bus_writes(s, size):
     dice = s.dice
     for amount in dice.shuffled([63, 64, 65, dice.one_of([dice.between(66, 140), dice.between(250, 330)])]):
         bus_write(s, s.any_place(), amount)
+    bus_write(s, (s.layout.window_end - 1) // 64 * 64 + 5, 64)
+    # 64 bytes move the counter to where it was, so that a second store shows by
+    # what the radio wrote in between.
+    s.image(size)
+    s.active()
+    s.address(0x4040)
+    s.send(*dice.bytes(64))
+    s.stop()
+    s.command(0xA2, 0x12, *dice.four())
+    s.stop()
 
 
 def unfinished_writes(s, size):
@@ -108,9 +161,32 @@ def bus_reads(s, size):
     end = s.layout.window_end
     s.address(end - dice.between(9, 14))
     s.read_on(dice.between(15, 20))
-    s.address(end - 1)
-    s.send(dice.byte())
-    s.stop()
-    s.read_on(3)
-    s.send(dice.byte())
-    s.read(2)
+    for page in (s.layout.pwd, s.layout.pack):
+        s.address(0x4000 + 4 * page)
+        s.read_on(2)
+        s.look_at_bus()
+    for amount in (1, 3):
+        s.address(end - 1)
+        s.send(dice.byte())
+        s.stop()
+        s.read_on(amount)
+        s.look_at_bus()
+
+
+def stored(s):
+    device_bytes(s)
+    other_hands(s)
+
+
+def stored_of_size(s, size):
+    events_by_phase(s, size)
+    deaf_after_the_last_read(s, size)
+    addresses(s, size)
+    bus_writes(s, size)
+    long_bus_writes(s, size)
+    unfinished_writes(s, size)
+    bus_reads(s, size)
+
+
+OF_ANY_KIND = [device_bytes, other_hands]
+OF_ANY_SIZE = [events_by_phase, deaf_after_the_last_read, addresses, bus_writes, long_bus_writes, unfinished_writes, bus_reads]

@@ -22,7 +22,7 @@ def build_image(size, uid=EXAMPLE_UID, bcc0=None, page_2=(0x93, 0x48, 0, 0), pag
     layout = LAYOUT_OF_SIZE[size]
     stored_bcc0 = 0x88 ^ uid[0] ^ uid[1] ^ uid[2] if bcc0 is None else bcc0
     pages = [uid[:3] + [stored_bcc0], uid[3:], list(page_2), list(page_3)]
-    pages += [list(user(page)) for page in layout.user_pages]
+    pages += [list(user(page)) for page in range(4, layout.lock_page)]
     pages += [list(lock_page), [0x04, 0, 0, auth0], [access, 0x05, 0, 0], list(pwd), list(pack)]
     tail = list(counter.to_bytes(3, "little")) + [failed]
     return [byte for page in pages + [tail] for byte in page]

@@ -1,5 +1,21 @@
 """Lines, good and bad."""
 
+from tag.frames import REQA
+
+LONGEST = b"parity 65535 " + b"A5" * 8192
+
+# A bad line of each kind that rules/bad_lines.py names. Taken for good, most of
+# them would do something that shows.
+BAD_LINE_OF_EACH_KIND = [
+    b"hello", b"STOP", b"stop\t", b"stop\r", b"stop\0", b"st\xf6p", b"read  ack", b" stop", b"stop ",
+    b"send 5", b"send 5g", b"event +1 00", b"event 1", b"stop 00", b"read Ack", b"send A0A1",
+    b"event 65536 00", b"event 65537 00", b"event 000001 00", b"buffer 1025", b"buffer 65535",
+    b"image " + b"5A" * 1025, b"image " + b"5A" * 1026,
+    b"frame 512 " + b"00" * 8193, b"frame 7 " + b"00" * 8194, LONGEST + b"0", LONGEST + b"A5"]
+
+# Lines that do nothing to the tag, though they are good.
+IDLE_LINES = [b"", b"#", b"# \t\r\0 \xff odd bytes", b"#" + b" long" * 3280, b"help", b"show",
+              b"buffer 1024", b"buffer 1023", b"buffer 0"]
 
 BAD_LINES = [
     b"hello", b"shows", b"sho", b"imag", b"image00", b"Image", b"SHOW", b"fielD", b"FRAME 7 52",
@@ -40,6 +56,64 @@ def every_odd_line(s):
         s.say(line)
 
 
+def changes_nothing(s, line):
+    """A line that changes nothing but the buffer, said three times: to a tag that was woken from
+    HALT, is authenticated and in the middle of a write; to one in HALT, deaf,
+    with a short buffer; and before the low address byte. What follows each time
+    shows that all is as it was."""
+    s.reach("ACTIVE", "HALT")
+    s.authenticate()
+    s.address(s.dice.between(0x4010, 0x4070))
+    s.send(*s.dice.bytes(2))
+    s.say(line)
+    s.usual_buffer()
+    s.look_at_radio()
+    s.look_at_bus()
+    s.reach("HALT")
+    s.to_phase("deaf")
+    s.say("buffer 1000")
+    s.say(line)
+    s.usual_buffer()
+    s.look_at_radio()
+    s.look_at_bus()
+    s.start()
+    s.send(0xA0, 0x40)
+    s.say(line)
+    s.look_at_bus()
+    s.usual_buffer()
+
+
+def lines_that_change_nothing(s):
+    """Bad lines of each kind, comments, empty lines, `help` and `show`."""
+    s.image(45)
+    for line in BAD_LINE_OF_EACH_KIND + IDLE_LINES:
+        changes_nothing(s, line)
+
+
+def new_images(s):
+    """An `image` line to a tag that is authenticated after HALT, and to one in
+    READY1 that has answered no READ yet, in any phase, with a short buffer: the
+    radio is as after field loss, the bus at rest at 4000h with nothing gathered,
+    the buffer as short as it was."""
+    s.image(45)
+    for phase in ("device", "high", "low", "write", "read"):
+        image = bytes(s.tag_image.everything()).hex().upper()
+        for way in (lambda: s.reach("ACTIVE", "HALT"), lambda: s.frame(REQA)):
+            way()
+            if s.radio.state == "ACTIVE":
+                s.authenticate()
+            s.to_phase(phase)
+            if phase == "write":
+                s.send(s.dice.byte())
+            s.say("buffer 1023")
+            s.say(f"image {image}")
+            s.usual_buffer()
+            s.look_at_silent_bus()
+            s.stop()
+            s.look_at_counter()
+        s.look_at_radio()
+
+
 def spoiled_lines(s, amount):
     """Good lines with one character changed, left out, or put in."""
     dice = s.dice
@@ -58,7 +132,8 @@ def any_spoiled_lines(s):
 
 
 def image_limits(s):
-    """Images of 1,024 bytes and of more."""
+    """Images of 1,024 bytes and of more; the short buffer stays short."""
+    s.say("buffer 512")
     s.raw_image(s.dice.bytes(1024))
     s.say("image " + "5A" * 1025)
     s.say("image " + "5a" * s.dice.between(1026, 1100))
@@ -67,13 +142,26 @@ def image_limits(s):
 
 
 def long_lines(s):
-    """The longest lines there are, and longer ones."""
+    """The longest line there is, in each state that it must leave alone, and
+    longer ones: the first 16,397 characters of one are the longest good line."""
     dice = s.dice
     s.image(45)
-    s.say("parity 65535 " + "A5" * 8192)
-    s.say("frame 512 " + "00" * 8193)
-    s.say("frame 7 " + "00" * 8194)
-    s.say("parity 65535 " + "A5" * 8192 + "0")
-    s.say("#" + " long" * dice.between(3300, 4000))
+    s.say(LONGEST)
+    s.look_at_radio()
+    s.say(LONGEST)
+    s.look_at_radio()
+    s.say(LONGEST + b"A5" * dice.between(2, 400))
     s.say("show" + " " * dice.between(16395, 17000))
     s.say("frame 7 52")
+
+
+def stored(s):
+    every_odd_line(s)
+    spoiled_lines(s, 150)
+    image_limits(s)
+    long_lines(s)
+    lines_that_change_nothing(s)
+    new_images(s)
+
+
+RARE = [every_odd_line, any_spoiled_lines, image_limits, long_lines, new_images]

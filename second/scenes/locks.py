@@ -1,5 +1,20 @@
 """Static and dynamic locks."""
 
+from scenes.images import LAYOUT_OF_SIZE
+
+
+def write_each(s, pages):
+    """Writes each page; a locked one also authenticated, which then ends. Lock
+    pages get no bits."""
+    for page in s.dice.shuffled(pages):
+        data = [0, 0, 0, 0] if page in (2, s.layout.lock_page) else s.dice.four()
+        s.active()
+        s.obey(0xA2, page, *data)
+        if s.radio.state != "ACTIVE":
+            s.active(authenticated=True)
+            s.command(0xA2, page, *data)
+            s.active()
+
 
 def static_locks(s, size, pages, dynamic_byte):
     """These pages locked: each page from 2 to 16 is written."""
@@ -7,9 +22,7 @@ def static_locks(s, size, pages, dynamic_byte):
     locks = sum(1 << page for page in pages)
     s.image(size, page_2=[0, 0, locks % 256, locks // 256],
             lock_page=[dynamic_byte, 0, 0, 0])
-    for page in dice.shuffled(range(2, 17)):
-        s.active()
-        s.command(0xA2, page, *([0, 0, 0, 0] if page == 2 else dice.four()))
+    write_each(s, range(2, 17))
 
 
 def any_static_locks(s):
@@ -32,14 +45,12 @@ def dynamic_locks(s, size, lock_bits):
     edges = {15, 16, s.layout.lock_page}
     for pages in s.layout.dynamic.locks.values():
         edges |= {pages[0], pages[-1]}
-    for page in dice.shuffled(sorted(edges)):
-        s.active()
-        s.command(0xA2, page, *([0, 0, 0, 0] if page == s.layout.lock_page else dice.four()))
+    write_each(s, sorted(edges))
 
 
 def any_dynamic_locks(s):
     size = s.dice.even_size()
-    bits = {45: 12, 135: 8, 231: 14}[size]
+    bits = len(LAYOUT_OF_SIZE[size].dynamic.locks)
     dynamic_locks(s, size, s.dice.some(s.dice.between(1, bits - 1), range(bits)))
 
 
@@ -51,11 +62,13 @@ def gaining(s, size, blocks):
     s.active()
     for page in (2, s.layout.lock_page):
         for _ in range(4):
-            s.command(0xA2, page, *[dice.one_of([dice.sparse_byte(), dice.byte()]) for _ in range(4)])
+            s.obey(0xA2, page, *[dice.one_of([dice.sparse_byte(), dice.byte()]) for _ in range(4)])
             s.command(0x3A, page, page)
-        s.command(0xA2, page, 0xFF, 0xFF, 0xFF, 0xFF)
-        s.command(0xA2, page, 0, 0, 0, 0)
+        s.obey(0xA2, page, 0xFF, 0xFF, 0xFF, 0xFF)
+        s.look_at_radio()
+        s.obey(0xA2, page, 0, 0, 0, 0)
         s.command(0x3A, page, page)
+        s.look_at_radio()
 
 
 def one_lock_bit_at_a_time(s, size, blocks):
@@ -66,8 +79,24 @@ def one_lock_bit_at_a_time(s, size, blocks):
     for page, blocks_at in ((2, {16, 17, 18}), (s.layout.lock_page, set(range(16, 24)))):
         others = set(range(32)) - blocks_at
         for bit in dice.shuffled(sorted(others)) + dice.shuffled(sorted(blocks_at)):
-            s.command(0xA2, page, *(1 << bit).to_bytes(4, "little"))
+            s.obey(0xA2, page, *(1 << bit).to_bytes(4, "little"))
         s.command(0x3A, page, page)
+
+
+def each_block_bit(s, size):
+    """One block bit set by the two wires, then a WRITE of all lock bits: those
+    that it blocks stay clear, and no other."""
+    s.image(size)
+    s.active()
+    for k in range(8):
+        for page in (2, s.layout.lock_page):
+            bits = [0, 0, 1 << k, 0]
+            s.address(0x4000 + 4 * page + (2 if page == 2 else 0))
+            s.send(*(bits[2:] if page == 2 else bits))
+            s.stop()
+            asked = [0, 0, 0xF8, 0xFF] if page == 2 else [0xFF, 0xFF, 0, 0]
+            s.command(0xA2, page, *asked)
+            s.command(0x3A, page, page)
 
 
 def block_and_lock_at_once(s, size):
@@ -76,12 +105,13 @@ def block_and_lock_at_once(s, size):
     s.image(size)
     s.active()
     for data in dice.shuffled([[0, 0, 0x09, 0x00], [0, 0, 0x52, 0x01], [0, 0, 0x04, 0x84]]):
-        s.command(0xA2, 2, *data)
-    s.command(0xA2, 2, 0xFF, 0xFF, 0xFF, 0xFF)
+        s.obey(0xA2, 2, *data)
+    s.obey(0xA2, 2, 0xFF, 0xFF, 0xFF, 0xFF)
     for k in dice.shuffled(range(8)):
         locks = dice.between(1, 3) << 2 * k
-        s.command(0xA2, s.layout.lock_page, locks % 256, locks // 256, 1 << k, 0)
-    s.command(0xA2, s.layout.lock_page, 0xFF, 0xFF, 0xFF, 0xFF)
+        s.obey(0xA2, s.layout.lock_page, locks % 256, locks // 256, 1 << k, 0)
+        s.command(0x3A, s.layout.lock_page, s.layout.lock_page)
+    s.obey(0xA2, s.layout.lock_page, 0xFF, 0xFF, 0xFF, 0xFF)
     s.command(0x30, s.layout.lock_page)
     s.command(0x30, 0)
 
@@ -95,3 +125,26 @@ def any_gaining(s):
         block_and_lock_at_once(s, size)
     else:
         gaining(s, size, dice.one_of([0, dice.sparse_byte(), dice.byte(), 0xFF]))
+
+
+def stored(s):
+    for pages in (range(4, 16, 2), range(3, 16)):
+        static_locks(s, 45, pages, dynamic_byte=0x01)
+
+
+def stored_of_size(s, size):
+    lock_bits = len(LAYOUT_OF_SIZE[size].dynamic.locks)
+    static_locks(s, size, range(3, 16, 2), dynamic_byte=0x00)
+    dynamic_locks(s, size, range(0, lock_bits, 2))
+    dynamic_locks(s, size, range(1, lock_bits, 2))
+    dynamic_locks(s, size, [])
+    for blocks in (0x00, 0x2A, 0x55, 0xFF):
+        gaining(s, size, blocks)
+    one_lock_bit_at_a_time(s, size, blocks=0x00)
+    one_lock_bit_at_a_time(s, size, blocks=0xFF)
+    each_block_bit(s, size)
+    block_and_lock_at_once(s, size)
+
+
+OF_ANY_KIND = [any_static_locks, any_dynamic_locks, any_dynamic_locks, any_gaining, any_gaining]
+OF_ANY_SIZE = [each_block_bit]

@@ -6,9 +6,10 @@ locks, and can steer: to ACTIVE, into HALT, into any phase of the two wires.
 
 from lines.player import Player
 from scenes.dice import Dice
-from scenes.images import build_image
+from scenes.images import access_byte, build_image
 from tag.bits import bits_of, bytes_of, with_crc
 from tag.frames import REQA, WUPA
+from tag.reads import border
 
 
 class Script:
@@ -18,13 +19,21 @@ class Script:
         self.dice = Dice(seed)
         self.player = Player()
         self.lines = []
-        self.answered = 0       # how many of the lines got an answer
+        self.answered = 0           # how many of the lines got an answer
+        self.length = 0             # of the text so far, with its newlines
+        self.reads_on_entry = True  # ACTIVE is entered with a READ
 
     def say(self, line):
         line = line if isinstance(line, bytes) else line.encode("ascii")
         self.lines.append(line)
+        self.length += len(line) + 1
         if self.player.answer(line) is not None:
             self.answered += 1
+
+    def comment_up_to(self, place):
+        """A comment behind which the next line begins at this place of a chunk."""
+        missing = (place - self.length - 2) % 4096
+        self.say("#" + "." * missing)
 
     def text(self):
         """The script as it is sent; its last line has no newline."""
@@ -54,24 +63,42 @@ class Script:
     # ---- Images
 
     def raw_image(self, data):
-        """Takes leave of the old image with a `show`, then takes the new one."""
-        self.say("show")
+        """Takes leave of the old image, then takes the new one."""
+        self.take_leave()
         digits = bytes(data).hex()
         digits = digits if self.dice.one_in(12) else digits.upper()
         self.say(f"image {digits}" if digits else "image")
 
+    def take_leave(self):
+        """Shows how both sides stand, and the image with its tail."""
+        if self.layout and self.player.buffer_length == 1024:
+            self.look_at_radio()
+        if self.layout:
+            self.look_at_bus()
+        self.say("show")
+
     def usual_buffer(self):
+        """A buffer that is long enough; one that isn't is shown to be too short."""
         if self.player.buffer_length != 1024:
+            self.frame(REQA)
             self.say("buffer 1024")
 
     def image(self, size, **wishes):
-        """An image of random contents, with what is wished for; frames are taken."""
+        """An image of random contents, with what is wished for; frames are taken.
+
+        Unless said, the counter is on and the last page is under password, so
+        that a READ over the border shows whether the tag is authenticated, and
+        the tail whether it counted.
+        """
         dice = self.dice
-        self.usual_buffer()
         wishes.setdefault("pwd", dice.four())
         wishes.setdefault("pack", dice.four())
         wishes.setdefault("bcc0", dice.one_of([None, dice.byte()]))
+        wishes.setdefault("auth0", size - 1)
+        wishes.setdefault("access", access_byte(prot=1, counter_on=1))
+        wishes.setdefault("counter", dice.below(2 ** 20))
         self.raw_image(build_image(size, uid=dice.bytes(7), user=lambda page: dice.four(), **wishes))
+        self.usual_buffer()
 
     # ---- Radio
 
@@ -92,6 +119,12 @@ class Script:
         """A frame of these bytes and their CRC."""
         self.frame(with_crc(data))
 
+    def obey(self, *data):
+        """A command, and a look at whether the tag is still authenticated or not."""
+        self.command(*data)
+        if self.radio.state == "ACTIVE":
+            self.read_over_border()
+
     def level(self):
         """The code and the five bytes of READY1 or READY2."""
         if self.radio.state == "READY1":
@@ -109,16 +142,42 @@ class Script:
         return with_crc([code, 0x70] + five)
 
     def advance(self):
-        """One right step from where the tag is towards ACTIVE."""
-        state = self.radio.state
+        """One right step from where the tag is towards ACTIVE, by frames that are
+        answered in this state alone."""
+        dice, state = self.dice, self.radio.state
         if state == "IDLE":
-            self.frame(self.dice.one_of([REQA, WUPA]), parity_good=not self.dice.one_in(8))
+            self.frame(REQA, parity_good=not dice.one_in(8))
         elif state == "HALT":
-            self.frame(WUPA, parity_good=not self.dice.one_in(8))
+            self.frame(WUPA, parity_good=not dice.one_in(8))
         else:
-            if self.dice.one_in(10):
-                self.frame(self.anticollision_bits(self.dice.below(40)))
+            if dice.one_in(10):
+                self.frame(self.anticollision_bits(dice.below(40)))
             self.frame(self.select_bits())
+            if self.radio.state == "ACTIVE" and self.reads_on_entry:
+                self.read_over_border()
+
+    def read_over_border(self):
+        """A READ whose pages tell whether the tag is authenticated, where some
+        are under password; it counts if it is the first in this field."""
+        size = self.layout.size
+        if border(self.radio):
+            self.command(0x30, min(self.tag_image.auth0() or size, size) - 1)
+
+    def look_at_radio(self):
+        """Shows the radio's state, what it keeps for later, and the wait state:
+        ends in ACTIVE."""
+        if self.radio.state == "ACTIVE":
+            self.read_over_border()
+        if self.radio.state not in ("IDLE", "HALT"):
+            self.frame(REQA)                        # silent: to the wait state
+        if self.radio.state == "HALT":
+            self.frame(WUPA)                        # silent in all states but HALT and IDLE
+            self.frame(REQA)                        # back
+            self.frame(REQA)                        # answered in IDLE
+        else:
+            self.frame(REQA)                        # silent in all states but IDLE
+        while self.radio.state != "ACTIVE":
+            self.advance()
 
     def to_waiting(self, wait=None):
         """To IDLE or to HALT; without a wish, to whichever is near."""
@@ -187,6 +246,36 @@ class Script:
         self.start()
         self.send(0xA1)
         self.read(amount)
+
+    def look_at_silent_bus(self):
+        """At rest or deaf: a read gives FFh, but in a read; a byte isn't
+        acknowledged, but in any other phase."""
+        self.event(3)
+        self.send(0xA0)
+
+    def look_at_counter(self):
+        """Reads on from where the counter stands: ends at rest."""
+        self.read_on(2)
+        self.event(3)                               # FFh: deaf
+        self.stop()
+
+    def look_at_bus(self):
+        """Shows the phase by events that belong to it, and then the counter."""
+        if self.bus.phase in ("rest", "deaf"):
+            self.look_at_silent_bus()
+        elif self.bus.phase == "device":
+            self.send(0xA1)
+        elif self.bus.phase == "high":
+            self.send(0x40)
+        if self.bus.phase == "low":
+            self.send(self.dice.between(0x10, 0x9F))
+        if self.bus.phase == "write":
+            self.send(self.dice.byte())
+            self.stop()
+        if self.bus.phase == "read":
+            self.read(2)
+            self.event(3)                           # FFh: deaf
+        self.look_at_counter()
 
     def any_place(self):
         """An address in the window, often at one of its edges."""

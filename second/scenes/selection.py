@@ -14,6 +14,21 @@ def anticollision(s, size):
             s.frame(s.anticollision_bits(known))
 
 
+def anticollision_keeps_all(s, wait):
+    """Every n, in both levels, after a READ in the same field. The tag stays
+    where it is, for the REQA behind it is silent; keeps its wait state, for the
+    next REQA shows which; and keeps that a READ was answered, for the last READ
+    doesn't count."""
+    s.image(45)
+    for state in ("READY1", "READY2"):
+        s.active()
+        for known in range(40):
+            s.reach(state, wait)
+            s.frame(s.anticollision_bits(known))
+            s.frame(REQA)
+        s.look_at_radio()
+
+
 def flipped(bits, place):
     return bits[:place] + [1 - bits[place]] + bits[place + 1:]
 
@@ -75,12 +90,60 @@ def strange_second_bytes(s):
 
 
 def ready_silences(s, state, wait):
-    """Every fault of a frame in READY1 or READY2."""
+    """Every fault of a frame in READY1 or READY2, then a look at where it led."""
     s.image(s.dice.size())
     for fault in s.dice.shuffled(FAULTS):
         s.reach(state, wait)
         s.frame(*faulty_ready_frame(s, fault))
+        s.look_at_radio()
+
+
+def short_selects(s):
+    """SELECT without its end: without its CRC_A it is no anticollision of forty
+    bits either."""
+    s.image(45)
+    for state in ("READY1", "READY2"):
+        for length in (16, 24, 55, 56, 57, 64, 71):
+            s.reach(state)
+            s.frame(s.select_bits()[:length])
+            s.look_at_radio()
+
+
+def exchanged_uids(s, wait):
+    """SELECT with another UID and the CRC_A of the right one, and with the right
+    UID and the CRC_A of another, in both levels: both are silent. And another
+    UID with its own CRC_A."""
+    s.image(45)
+    for state in ("READY1", "READY2"):
+        for byte in range(2, 7):
+            s.reach(state, wait)
+            right = s.select_bits()
+            other = with_crc(bytes_of(flipped(right, 8 * byte + s.dice.below(8)))[:7])
+            for bits in (other[:56] + right[56:], right[:56] + other[56:], other):
+                s.reach(state, wait)
+                s.frame(bits)
+                s.frame(s.anticollision_bits(0) if s.radio.state == state else bits_of([0x95, 0x20]))
+    s.look_at_radio()
 
 
 def any_ready_silences(s):
     ready_silences(s, s.dice.one_of(["READY1", "READY2"]), s.dice.one_of(["IDLE", "HALT"]))
+
+
+def stored(s):
+    for wait in ("IDLE", "HALT"):
+        for state in ("READY1", "READY2"):
+            ready_silences(s, state, wait)
+        exchanged_uids(s, wait)
+        anticollision_keeps_all(s, wait)
+    short_selects(s)
+    strange_second_bytes(s)
+    strange_second_bytes(s)
+
+
+def stored_of_size(s, size):
+    anticollision(s, size)
+
+
+OF_ANY_KIND = [any_ready_silences, strange_second_bytes]
+OF_ANY_SIZE = [anticollision]

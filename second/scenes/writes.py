@@ -12,19 +12,20 @@ def page_of_each_kind(s):
 
 
 def writes(s, size, auth0, settings_lock):
-    """WRITE to each kind of page, open, under password, and authenticated."""
+    """WRITE to each kind of page, open, under password, and authenticated; what
+    it stored, and that the tag is authenticated as before, is read."""
     dice = s.dice
-    access = access_byte(settings_lock=settings_lock, prot=dice.below(2))
+    access = access_byte(settings_lock=settings_lock, prot=1, counter_on=1)
     s.image(size, auth0=auth0, access=access)
     for authenticated in (False, True):
         for page in dice.shuffled(page_of_each_kind(s)):
             data = plausible_data(s, page)
             if page == s.layout.settings[0]:
-                data[3] = auth0
+                data = dice.bytes(3) + [auth0]
             elif page == s.layout.settings[1]:
-                data[0] = access
+                data = [access] + dice.bytes(3)
             s.active(authenticated)
-            s.command(0xA2, page, *data)
+            s.obey(0xA2, page, *data)
     for page in (auth0 - 1, auth0):
         if 2 <= page <= 255:
             s.active()
@@ -43,7 +44,22 @@ def page_3(s):
     s.image(dice.size(), page_3=[dice.sparse_byte() for _ in range(4)])
     s.active()
     for _ in range(4):
-        s.command(0xA2, 3, *[dice.sparse_byte() for _ in range(4)])
+        s.obey(0xA2, 3, *[dice.sparse_byte() for _ in range(4)])
         s.command(0x3A, 3, 3)
-    s.command(0xA2, 3, *s.tag_image.pages[3])
-    s.command(0xA2, 3, 0, 0, 0, 0)
+    s.obey(0xA2, 3, *s.tag_image.pages[3])
+    s.look_at_radio()
+    s.obey(0xA2, 3, 0, 0, 0, 0)
+
+
+def stored(s):
+    page_3(s)
+    page_3(s)
+
+
+def stored_of_size(s, size):
+    for auth0 in (0, 2, 0xFF, s.dice.between(16, size - 6)):
+        writes(s, size, auth0, settings_lock=0)
+        writes(s, size, auth0, settings_lock=1)
+
+
+OF_ANY_KIND = [any_writes, any_writes, page_3]

@@ -10,9 +10,7 @@ def bits_of(data):
 
 def bytes_of(bits):
     """Bits as bytes: "Unused high bits of the last byte are zero." """
-    if not bits:
-        return b""
-    numeral = "".join(map(str, reversed(bits)))
+    numeral = "".join(map("01".__getitem__, reversed(bits)))
     return int(numeral, 2).to_bytes((len(bits) + 7) // 8, "little")
 
 
@@ -24,10 +22,11 @@ def crc_a(bits):
     """
     register = bits_of([0x63, 0x63])
     for bit in bits:
-        fed_back = bit ^ register[0]
-        register = register[1:] + [fed_back]
-        register[10] ^= fed_back
-        register[3] ^= fed_back
+        fed_back = bit ^ register.pop(0)
+        register.append(fed_back)
+        if fed_back:
+            register[10] ^= 1
+            register[3] ^= 1
     return register
 
 

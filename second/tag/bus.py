@@ -15,7 +15,7 @@ class Bus:
         self.image = image
         self.phase = "rest"
         self.counter = WINDOW_START
-        self.high = 0
+        self.high = None
         self.gathered = ()
 
     def in_window(self, address):
@@ -41,9 +41,9 @@ class Bus:
         """"Stop stores the gathered bytes [...]; if any were gathered, the
         counter becomes the place after the last data byte, rolled within its
         page. The bus is then at rest." """
-        if self.gathered:
-            self.store()
-            self.counter = self.place_of(len(self.gathered))
+        self.store()
+        # If none were gathered, this is where the counter is.
+        self.counter = self.place_of(len(self.gathered))
         self.gathered = ()
         self.phase = "rest"
 

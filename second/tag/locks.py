@@ -34,11 +34,6 @@ class LockPlan:
                          for place, (before, wish) in enumerate(zip(old, new))])
 
 
-def bits_of_byte_in_page(byte, first, last):
-    """The places, in a page's 32 bits, of the bits first to last of a byte."""
-    return [8 * byte + bit for bit in range(first, last + 1)]
-
-
 def static_plan():
     """Image bytes 10 and 11 are bytes 2 and 3 of page 2.
 
@@ -46,27 +41,23 @@ def static_plan():
     pages 4-9, bit 2 those of 10-15; bit 3 locks page 3, bits 4-7 pages 4-7.
     Byte 11: bits 0-7 lock pages 8-15."
     """
-    place_of_lock = {3: bits_of_byte_in_page(2, 3, 3)[0]}
-    place_of_lock.update(zip(range(4, 8), bits_of_byte_in_page(2, 4, 7)))
-    place_of_lock.update(zip(range(8, 16), bits_of_byte_in_page(3, 0, 7)))
-    blocked_pages = dict(zip(bits_of_byte_in_page(2, 0, 2),
-                             [range(3, 4), range(4, 10), range(10, 16)]))
-    locks = {place: [page] for page, place in place_of_lock.items()}
-    blocks = {block: {place_of_lock[page] for page in pages}
-              for block, pages in blocked_pages.items()}
+    first_place = 8 * 2
+    locks = {first_place + page: [page] for page in range(3, 16)}
+    blocked_pages = [range(3, 4), range(4, 10), range(10, 16)]
+    blocks = {first_place + bit: {first_place + page for page in pages}
+              for bit, pages in enumerate(blocked_pages)}
     return LockPlan(locks, blocks)
 
 
-def dynamic_plan(user_pages, lock_bits, pages_each, block_bits):
+def dynamic_plan(last_user_page, lock_bits, pages_each, block_bits):
     """"They cover user pages from 16 up, in order."
 
     "Byte 2 holds block bits: bit k blocks lock bits 2k and 2k+1".
     """
-    covered = [page for page in user_pages if page >= 16]
+    covered = range(16, last_user_page + 1)
     locks = {bit: covered[bit * pages_each:(bit + 1) * pages_each]
              for bit in range(lock_bits)}
-    block_places = bits_of_byte_in_page(2, 0, block_bits - 1)
-    blocks = {place: {2 * k, 2 * k + 1} for k, place in enumerate(block_places)}
+    blocks = {8 * 2 + k: {2 * k, 2 * k + 1} for k in range(block_bits)}
     return LockPlan(locks, blocks)
 
 

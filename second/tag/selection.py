@@ -1,6 +1,6 @@
 """Frames in READY1 and READY2: anticollision and SELECT."""
 
-from tag.bits import bits_of, bytes_of, with_crc
+from tag.bits import bits_of, with_crc
 
 
 def in_ready(radio, frame):
@@ -25,24 +25,19 @@ def is_select(bits, code, five):
 
 
 def is_anticollision(bits, code, five):
-    """"the frame must be 16+n bits, its last n the first n of the forty"."""
-    known = told_bits(bits)
-    return known is not None and bits == bits_of([code, second_byte(bits)]) + bits_of(five)[:known]
+    """"Second byte 20h-67h, low half at most 7: n = 8 x (high half - 2) + low
+    half; the frame must be 16+n bits, its last n the first n of the forty".
+
+    So n is 0 to 39, and each n has one second byte.
+    """
+    n = told_bits(bits)
+    high, low = n // 8 + 2, n % 8
+    return n < 40 and bits == bits_of([code, 16 * high + low]) + bits_of(five)[:n]
 
 
 def told_bits(bits):
-    """"Second byte 20h-67h, low half at most 7: n = 8 x (high half - 2) + low
-    half"; None for another second byte."""
-    second = second_byte(bits)
-    high, low = divmod(second, 16)
-    if 0x20 <= second <= 0x67 and low <= 7:
-        return 8 * (high - 2) + low
-    return None
-
-
-def second_byte(bits):
-    """The second byte; of a frame that has none, 0."""
-    return bytes_of(bits[8:16])[0] if len(bits) >= 16 else 0
+    """"the frame must be 16+n bits" """
+    return len(bits) - 16
 
 
 def selected(radio):

@@ -4,13 +4,15 @@ from array import array
 
 from rules import observers_of, rules_met
 from rules.both_sides import RULES as BOTH_SIDES
+from rules.lines import RULES as LINE_RULES
 from rules.step import Watched
 from state import put_state, state_of
 from wrong.trial import play_until_noticed
-from wrong.twists import BUS, LINES, RADIO
+from wrong.twists import BUS, LINES, RADIO, READING
 
 ANOTHER_ANSWER = "another answer"
-TWISTS = {**RADIO, **BUS, **LINES}
+RECORDS = {**RADIO, **BUS, **LINES}
+TWISTS = {**RECORDS, **READING}
 
 
 class SkippedStep:
@@ -23,19 +25,22 @@ class SkippedStep:
         self.after = player
 
 
-def twists_of(step):
-    """The twists that are sensible for a step: those of its side.
+def twists_of(step, key):
+    """The twists that are sensible for a step and a rule: those of its side.
 
     An image of another length answers to nothing, so nothing of the tag's
-    records can be seen of it.
+    records can be seen of it. Where the rule is one of how lines are written,
+    the line can only be left out as a whole.
     """
     if step.after.tag.image.layout is None:
         return LINES
-    if step.word in ("frame", "parity"):
-        return {**RADIO, **LINES}
-    if step.word in ("start", "stop", "send", "read", "event"):
-        return {**BUS, **LINES}
-    return TWISTS
+    on_radio = step.word in ("frame", "parity")
+    on_bus = step.word in ("start", "stop", "send", "read", "event")
+    if key.startswith(("form.", "limit/")) or key in LINE_RULES and (on_radio or on_bus):
+        return READING
+    if key in BOTH_SIDES or not (on_radio or on_bus):
+        return RECORDS
+    return {**RADIO, **LINES} if on_radio else {**BUS, **LINES}
 
 
 def another_answer(answer):
@@ -59,15 +64,12 @@ class Catalogue:
 
     def look(self, place, step, keys, before, after, player):
         """Called for each line of the right tag's play."""
-        keys, step = set(keys), step or SkippedStep(player)
-        effective = [name for name, twist in twists_of(step).items() if twist(step, before, after)]
-        for key in keys:
-            for name in [ANOTHER_ANSWER] + effective:
+        step = step or SkippedStep(player)
+        effective = {name for name, twist in TWISTS.items() if twist(step, before, after)}
+        for key in set(keys):
+            self.note(key, ANOTHER_ANSWER, place)
+            for name in effective & set(twists_of(step, key)):
                 self.note(key, name, place)
-        for key in keys & set(BOTH_SIDES):
-            for name, twist in TWISTS.items():
-                if name not in effective and twist(step, before, after):
-                    self.note(key, name, place)
 
     def note(self, key, name, place):
         self.places.setdefault(f"{key} {name}", array("I")).append(place)

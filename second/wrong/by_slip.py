@@ -27,9 +27,9 @@ class Sources:
     def slips(self):
         return {slip.name: slip for name, tree in self.trees.items() for slip in slips_in(name, tree)}
 
-    def player_with(self, slip):
-        """A player of its own modules, one of them with the slip."""
-        return load({**self.codes, slip.module: slip.code()})["lines.player"].Player()
+    def modules_with(self, slip):
+        """All modules anew, one of them with the slip."""
+        return load({**self.codes, slip.module: slip.code()})
 
 
 def module_of(file):
@@ -122,7 +122,8 @@ class SlippedTag:
         self.play = player.answer
 
     def stand(self, place):
-        put_state(self.player, self.record.states[place])
+        if place:                   # at the start it stands as it was made
+            put_state(self.player, self.record.states[place])
 
     def stands_as(self, place):
         try:
@@ -131,9 +132,9 @@ class SlippedTag:
             return False
 
 
-def try_slip(record, places, sources, slip):
+def try_slip(record, text, places, sources, slip):
     """The first Difference of a tag with this slip; or None."""
-    making = Making(record, sources, slip)
+    making = Making(record, text, sources, slip)
     fault = answer_in_time(making, b"")
     return Difference(0, fault) if fault else play_until_noticed(record, places, making.tag)
 
@@ -141,9 +142,13 @@ def try_slip(record, places, sources, slip):
 class Making:
     """The making of a tag with a slip, which may crash as a line may."""
 
-    def __init__(self, record, sources, slip):
-        self.record, self.sources, self.slip = record, sources, slip
+    def __init__(self, record, text, sources, slip):
+        self.record, self.text, self.sources, self.slip = record, text, sources, slip
 
     def play(self, line):
-        self.tag = SlippedTag(self.record, self.sources.player_with(self.slip))
-        self.tag.stand(0)
+        """None, or what went wrong in words."""
+        modules = self.sources.modules_with(self.slip)
+        if modules["lines.reading"].lines_of(self.text) != self.record.lines:
+            return b"(reads other lines)"
+        self.tag = SlippedTag(self.record, modules["lines.player"].Player())
+        return None

@@ -41,7 +41,7 @@ class Trials:
         if name in self.by_slip:
             slip = self.by_slip[name]
             places = self.places_run.get((slip.module, slip.statement), [])
-            return try_slip(self.record, places, self.sources, slip)
+            return try_slip(self.record, self.text, places, self.sources, slip)
         return try_reader(self.record, self.text, name)
 
 

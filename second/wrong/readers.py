@@ -49,6 +49,12 @@ def two_reads_at_most(text):
         yield line[max(0, (last_read - 1) * CHUNK - start):]
 
 
+def first_two_reads_at_most(text):
+    """Of a line that lies across more than two reads, what the first two brought is taken."""
+    for line, start in lines_and_starts(text):
+        yield line[:(start // CHUNK + 2) * CHUNK - start]
+
+
 def lines_and_starts(text):
     start = 0
     for line in lines_of(text):
@@ -115,6 +121,7 @@ READERS = {
     "a line across two reads loses its tail": tail_lost,
     "a line across two reads becomes two lines": cut_in_two,
     "a line across many reads keeps the last two": two_reads_at_most,
+    "a line across many reads keeps the first two": first_two_reads_at_most,
     "the last byte of a read is lost": byte_lost(-1),
     "the first byte of a read is lost": byte_lost(0),
     "a newline at the end of a read is lost": newline_lost(-1),

@@ -222,6 +222,13 @@ BUS = {
     "stores all the same": stores_all_the_same,
 }
 
+def nothing_done(step, before, after):
+    """The line is answered, and not followed."""
+    return before if before != after else None
+
+
+READING = {"nothing done": nothing_done}
+
 LINES = {
     "buffer left": left("buffer_length"),
     "buffer set back": buffer_set_back,
