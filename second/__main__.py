@@ -148,9 +148,10 @@ def wrong(arguments):
     jobs = whole_number(options.get("--jobs", "2"), 1)
     if not plain:
         return 0 if try_all(jobs) else 1
-    if not try_named(plain[0]):
+    good = try_named(plain[0])
+    if good is None:
         raise WrongUse(f"no wrong tag has {plain[0]} in its name")
-    return 0
+    return 0 if good else 1
 
 
 def piece(arguments):

@@ -1,4 +1,16 @@
 """What the scripts play: scenes for each group of rules, and walks that mix all.
 
-A scene takes a Script, which knows the tag, and adds lines to it.
+A scene takes a Script, which knows the tag, and adds lines to it. The scenes of
+a part have the name of its rules: refusals, waiting, selection, active, reads,
+writes, locks, password, bus, both_sides, lines. Beside them:
+
+    dice        random numbers
+    images      the bytes of an image
+    script      writes lines while playing along, steers, and looks at the tag;
+                script_radio and script_bus are its two sides
+    plausible   images and commands as they might be met
+    chunks      input that is read by chunks
+    walks       everything mixed
+    examples    the examples of document 01, with their answers
+    stored      the script that is stored, and fresh ones
 """

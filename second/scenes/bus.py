@@ -189,4 +189,5 @@ def stored_of_size(s, size):
 
 
 OF_ANY_KIND = [device_bytes, other_hands]
-OF_ANY_SIZE = [events_by_phase, deaf_after_the_last_read, addresses, bus_writes, long_bus_writes, unfinished_writes, bus_reads]
+OF_ANY_SIZE = [events_by_phase, deaf_after_the_last_read, addresses, bus_writes, long_bus_writes,
+               unfinished_writes, bus_reads]

@@ -50,6 +50,7 @@ def odd_lines(s, amount):
 
 
 def every_odd_line(s):
+    """All bad and good lines, in ACTIVE."""
     s.image(45)
     s.active()
     for line in s.dice.shuffled(BAD_LINES + GOOD_LINES):

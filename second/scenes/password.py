@@ -89,5 +89,5 @@ def stored_of_size(s, size):
     leaving_active(s, size)
 
 
-OF_ANY_KIND = [wrong_passwords, any_passwords, any_passwords]
+OF_ANY_KIND = [wrong_passwords, last_chances, any_passwords, any_passwords]
 OF_ANY_SIZE = [leaving_active]

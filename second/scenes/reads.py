@@ -165,5 +165,6 @@ def stored_of_size(s, size):
     reads(s, size, 4, prot=0)
 
 
-OF_ANY_KIND = [any_reads, any_reads, any_counting, versions, refused_read_cnt, refused_reads]
+OF_ANY_KIND = [any_reads, any_reads, any_counting, versions, refused_read_cnt, refused_reads,
+               first_reads]
 RARE = [any_whole_memory]

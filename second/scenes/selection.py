@@ -126,6 +126,10 @@ def exchanged_uids(s, wait):
     s.look_at_radio()
 
 
+def any_exchanged_uids(s):
+    exchanged_uids(s, s.dice.one_of(["IDLE", "HALT"]))
+
+
 def any_ready_silences(s):
     ready_silences(s, s.dice.one_of(["READY1", "READY2"]), s.dice.one_of(["IDLE", "HALT"]))
 
@@ -145,5 +149,5 @@ def stored_of_size(s, size):
     anticollision(s, size)
 
 
-OF_ANY_KIND = [any_ready_silences, strange_second_bytes]
+OF_ANY_KIND = [any_ready_silences, any_exchanged_uids, short_selects, strange_second_bytes]
 OF_ANY_SIZE = [anticollision]

@@ -10,6 +10,7 @@ get another answer from each of them than from the right tag.
     by_rule     the wrong tags of each rule, and how they are played
     slips       wrong by slip: one slip in the source of the tag or of the lines
     by_slip     the wrong tags of each slip, and how they are played
+    by_hand     wrong by hand: mistakes that are more than a slip
     readers     wrong by reading: input that comes in chunks, read wrongly
     meaningless those that no script can notice, with the reason
     command     tries them all, or some by name

@@ -20,7 +20,8 @@ class Sources:
 
     def __init__(self):
         files = [file for package in PACKAGES for file in sorted((HERE / package).glob("*.py"))]
-        trees = {module_of(file): number_nodes(ast.parse(file.read_text("utf-8"))) for file in files}
+        self.texts = {module_of(file): file.read_text("utf-8") for file in files}
+        trees = {name: number_nodes(ast.parse(text)) for name, text in self.texts.items()}
         self.trees = dict(in_order(trees))
         self.codes = {name: compile(tree, name, "exec") for name, tree in self.trees.items()}
 
@@ -133,7 +134,7 @@ class SlippedTag:
 
 
 def try_slip(record, text, places, sources, slip):
-    """The first Difference of a tag with this slip; or None."""
+    """The first Difference of a tag with this slip, or made by hand; or None."""
     making = Making(record, text, sources, slip)
     fault = answer_in_time(making, b"")
     return Difference(0, fault) if fault else play_until_noticed(record, places, making.tag)

@@ -5,6 +5,7 @@ import sys
 
 from compare import first_difference, readable
 from scenes.stored import stored_script
+from wrong.by_hand import BY_HAND, ByHand
 from wrong.by_rule import Catalogue, try_rule
 from wrong.by_slip import Sources, places_run, try_slip
 from wrong.meaningless import MEANINGLESS
@@ -29,10 +30,14 @@ class Trials:
     def families(self):
         """The names of the wrong tags, by family."""
         return {"by rule": list(self.by_rule), "by slip": list(self.by_slip),
-                "by reading": list(READERS)}
+                "by reading": list(READERS), "by hand": list(BY_HAND)}
 
     def names(self):
         return [name for family in self.families().values() for name in family]
+
+    def line_of(self, name):
+        """Where a slip is in its file, in words; nothing for other wrong tags."""
+        return f" (line {self.by_slip[name].node.lineno})" if name in self.by_slip else ""
 
     def try_one(self, name):
         """The first Difference, or None."""
@@ -42,6 +47,9 @@ class Trials:
             slip = self.by_slip[name]
             places = self.places_run.get((slip.module, slip.statement), [])
             return try_slip(self.record, self.text, places, self.sources, slip)
+        if name in BY_HAND:
+            everywhere = range(len(self.record.lines))
+            return try_slip(self.record, self.text, everywhere, self.sources, ByHand(name, self.sources))
         return try_reader(self.record, self.text, name)
 
 
@@ -64,7 +72,7 @@ def try_all(jobs):
     prepare()
     names = TRIALS.names()
     unnoticed = set()
-    with multiprocessing.Pool(jobs) as pool:
+    with multiprocessing.get_context("fork").Pool(jobs) as pool:
         for done, (name, difference) in enumerate(pool.imap_unordered(try_by_name, names, 16), 1):
             if difference is None:
                 unnoticed.add(name)
@@ -82,7 +90,7 @@ def report(names, unnoticed):
     noticed_after_all = [name for name in MEANINGLESS if name in names and name not in unnoticed]
     gone = [name for name in MEANINGLESS if name not in names]
     for name in left:
-        print(f"not noticed: {name}")
+        print(f"not noticed: {name}{TRIALS.line_of(name)}")
     for name in noticed_after_all:
         print(f"listed as meaningless, but noticed: {name}")
     for name in gone:
@@ -94,23 +102,29 @@ def report(names, unnoticed):
 
 
 def try_named(part):
-    """Tries those whose name is this, or has it in it; None if there is none."""
+    """Tries those whose name is this, or has it in it; True if each is noticed or
+    listed, None if there is none."""
     prepare()
     names = TRIALS.names()
     chosen = [part] if part in names else [name for name in names if part in name]
+    good = bool(chosen) or None
     for name in chosen:
-        print(told(name, TRIALS.try_one(name)), flush=True)
-    return bool(chosen)
+        difference = TRIALS.try_one(name)
+        print(told(name, difference), flush=True)
+        if difference is None and name not in MEANINGLESS:
+            good = False
+    return good
 
 
 def told(name, difference):
     """What came of a wrong tag, in words."""
+    heading = name + TRIALS.line_of(name)
     if difference is None:
         reason = MEANINGLESS.get(name)
-        return f"{name}\n    not noticed" + (f": {reason}" if reason else "")
+        return f"{heading}\n    not noticed" + (f": {reason}" if reason else "")
     due = TRIALS.record.answers[difference.place]
     due = b"(no answer)" if due is None else due
     given = b"(no answer)" if difference.given is None else difference.given
     place = first_difference(due, given)
-    return (f"{name}\n    line {difference.place + 1}: {readable(TRIALS.record.lines[difference.place])}\n"
+    return (f"{heading}\n    line {difference.place + 1}: {readable(TRIALS.record.lines[difference.place])}\n"
             f"    due:   {readable(due, place)}\n    given: {readable(given, place)}")

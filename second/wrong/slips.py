@@ -9,6 +9,9 @@ import copy
 
 TURNED = {ast.Lt: ast.GtE, ast.GtE: ast.Lt, ast.Gt: ast.LtE, ast.LtE: ast.Gt, ast.Eq: ast.NotEq,
           ast.NotEq: ast.Eq, ast.In: ast.NotIn, ast.NotIn: ast.In, ast.Is: ast.IsNot, ast.IsNot: ast.Is}
+EXCHANGED = {ast.Add: ast.Sub, ast.Sub: ast.Add, ast.Mult: ast.Add, ast.FloorDiv: ast.Mod,
+             ast.Mod: ast.FloorDiv, ast.BitOr: ast.BitAnd, ast.BitAnd: ast.BitOr, ast.BitXor: ast.BitOr,
+             ast.RShift: ast.LShift, ast.LShift: ast.RShift}
 MOVED_BY_ONE = {ast.Lt: ast.LtE, ast.LtE: ast.Lt, ast.Gt: ast.GtE, ast.GtE: ast.Gt}
 
 
@@ -95,6 +98,10 @@ def changes_of(node):
     if isinstance(node, ast.BoolOp):
         other = ast.Or() if isinstance(node.op, ast.And) else ast.And()
         return [ast.BoolOp(other, node.values)]
+    if isinstance(node, ast.BinOp) and type(node.op) in EXCHANGED:
+        return [ast.BinOp(node.left, EXCHANGED[type(node.op)](), node.right)]
+    if isinstance(node, ast.AugAssign) and type(node.op) in EXCHANGED:
+        return [ast.AugAssign(node.target, EXCHANGED[type(node.op)](), node.value), ast.Pass()]
     if isinstance(node, ast.UnaryOp) and isinstance(node.op, ast.Not):
         return [node.operand]
     if isinstance(node, ast.If):
@@ -106,7 +113,7 @@ def changes_of(node):
                 for taken in (True, False)]
     if isinstance(node, ast.Return) and node.value and not is_none(node.value):
         return [ast.Return(ast.Constant(None))]
-    if isinstance(node, (ast.Assign, ast.AugAssign, ast.Expr, ast.Raise)):
+    if isinstance(node, (ast.Assign, ast.Expr, ast.Raise)):
         return [ast.Pass()]
     return []
 

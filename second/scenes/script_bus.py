@@ -1,0 +1,91 @@
+"""The two wires of a script: events, the way to a phase, and looks at it."""
+
+
+class BusLines:
+    """What a Script can say on the two wires."""
+
+    def event(self, number, byte=0x00):
+        """An event, under its own name or by its number."""
+        if self.dice.one_in(12):
+            self.say(f"event {number} {byte:02X}")
+        else:
+            self.say(["start", "stop", f"send {byte:02X}", "read ack", "read nak"][number])
+
+    def start(self):
+        self.event(0)
+
+    def stop(self):
+        self.event(1)
+
+    def send(self, *data):
+        for byte in data:
+            self.event(2, byte)
+
+    def read(self, amount):
+        """Some bytes with ACK, the last without."""
+        for _ in range(amount - 1):
+            self.event(3)
+        self.event(4)
+
+    def address(self, address):
+        self.start()
+        self.send(0xA0, address // 256, address % 256)
+
+    def read_on(self, amount):
+        """Reads from where the counter stands."""
+        self.start()
+        self.send(0xA1)
+        self.read(amount)
+
+    def look_at_silent_bus(self):
+        """At rest or deaf: a read gives FFh, but in a read; a byte isn't
+        acknowledged, but in any other phase."""
+        self.event(3)
+        self.send(0xA0)
+
+    def look_at_counter(self):
+        """Reads on from where the counter stands: ends at rest."""
+        self.read_on(2)
+        self.event(3)                               # FFh: deaf
+        self.stop()
+
+    def look_at_bus(self):
+        """Shows the phase by events that belong to it, and then the counter."""
+        if self.bus.phase in ("rest", "deaf"):
+            self.look_at_silent_bus()
+        elif self.bus.phase == "device":
+            self.send(0xA1)
+        elif self.bus.phase == "high":
+            self.send(0x40)
+        if self.bus.phase == "low":
+            self.send(self.dice.between(0x10, 0x9F))
+        if self.bus.phase == "write":
+            self.send(self.dice.byte())
+            self.stop()
+        if self.bus.phase == "read":
+            self.read(2)
+            self.event(3)                           # FFh: deaf
+        self.look_at_counter()
+
+    def any_place(self):
+        """An address in the window, often at one of its edges."""
+        end = self.layout.window_end
+        return self.dice.one_of([
+            0x4000 + self.dice.below(16), end - 1 - self.dice.below(24),
+            0x4000 + 64 * self.dice.below((end - 0x4000) // 64) + 63 - self.dice.below(4),
+            0x4000 + self.dice.below(end - 0x4000)])
+
+    def to_phase(self, phase):
+        """Brings the two wires into a phase."""
+        if phase == "rest":
+            self.stop()
+            return
+        self.start()
+        if phase == "deaf":
+            self.send(self.dice.one_of([0x20, 0x21, 0xA2, 0xA3, 0x50]))
+        elif phase == "read":
+            self.send(0xA1)
+        elif phase in ("high", "low", "write"):
+            place = self.any_place()
+            steps = {"high": 0, "low": 1, "write": 2}[phase]
+            self.send(*[0xA0, place // 256, place % 256][:1 + steps])
