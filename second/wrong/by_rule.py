@@ -65,11 +65,13 @@ class Catalogue:
     def look(self, place, step, keys, before, after, player):
         """Called for each line of the right tag's play."""
         step = step or SkippedStep(player)
-        effective = {name for name, twist in TWISTS.items() if twist(step, before, after)}
-        for key in set(keys):
+        effective = [name for name, twist in TWISTS.items() if twist(step, before, after)]
+        for key in dict.fromkeys(keys):
             self.note(key, ANOTHER_ANSWER, place)
-            for name in effective & set(twists_of(step, key)):
-                self.note(key, name, place)
+            sensible = twists_of(step, key)
+            for name in effective:
+                if name in sensible:
+                    self.note(key, name, place)
 
     def note(self, key, name, place):
         self.places.setdefault(f"{key} {name}", array("I")).append(place)
@@ -98,10 +100,14 @@ class TwistedTag:
             return another_answer(answer)
         after = state_of(self.watched.player)
         before = state_of(self.watched.before) if step else after
-        twisted = TWISTS[self.name](step or SkippedStep(self.watched.player), before, after)
-        if twisted:
-            put_state(self.watched.player, twisted)
+        self.twist(step or SkippedStep(self.watched.player), before, after)
         return answer
+
+    def twist(self, step, before, after):
+        if self.name in twists_of(step, self.key):
+            twisted = TWISTS[self.name](step, before, after)
+            if twisted:
+                put_state(self.watched.player, twisted)
 
 
 def try_rule(record, places, name):
