@@ -21,15 +21,62 @@ is_new() {
     [ -f "$1" ] && [ -z "$(find "$root/crates" "$root/crates.txt" -newer "$1" 2>/dev/null | head -n 1)" ]
 }
 
-# Runs rt, which proves what it builds; what it says of each crate goes to standard error, and all of it where it fails.
+# How many crates of the repository have to be proved for one: itself, and all that it stands on.
+crates_for() {
+    awk -v wanted="$1" '
+        { sub(/#.*/, "") }
+        /:/ { crate = $1; sub(/:.*/, "", crate); stands_on[crate] = substr($0, index($0, ":") + 1) }
+        function visit(crate,    list, count, k) {
+            if (!(crate in stands_on) || crate in seen) return
+            seen[crate] = 1
+            total++
+            count = split(stands_on[crate], list, " ")
+            for (k = 1; k <= count; k++) visit(list[k])
+        }
+        END { visit(wanted); print total + 0 }' "$root/crates.txt"
+}
+
+# Reads what rt says as it says it, and tells on standard error which crate of how many is proved.
+progress() {
+    total=$1 at=0
+    while IFS= read -r line; do
+        said=${line#rt: }
+        case $line in
+        'rt: '*' proved ('* | 'rt: target/staticlib/'*)
+            at=$((at + 1))
+            printf '%s: %s of %s proved: %s\n' "$name" "$at" "$total" "$(printf '%s\n' "$said" | sed -e 's/ proved (/ (/' -e 's/ has the functions of .*//')" >&2
+            ;;
+        'rt: '*) printf '%s: %s\n' "$name" "$said" >&2 ;;
+        esac
+    done
+}
+
+# Says each half minute that rt is still at work, for as long as this script runs.
+still_at_work() {
+    seconds=0
+    while sleep 30 >/dev/null 2>&1 && kill -0 "$$" 2>/dev/null; do
+        seconds=$((seconds + 30))
+        printf '%s: .. still proving, after %s s\n' "$name" "$seconds" >&2
+    done
+}
+
+# prove WHAT COMMAND CRATE: says what is made, and runs rt, which proves the crate and all that it stands on. What rt says of each crate goes to
+# standard error as it comes, and where rt fails all of it. A crate takes 12 to 24 seconds in the mean, and up to a minute on a busy machine.
 prove() {
-    log=$(mktemp) || fail 'no temporary file could be made'
-    proved=$(mktemp) || fail 'no temporary file could be made'
-    (cd "$root" && "$rt" "$@" </dev/null 2>&1 && echo yes >"$proved") | tee "$log" | grep --line-buffered -E '^rt: ' >&2 || true
-    if [ ! -s "$proved" ]; then
+    total=$(crates_for "$3")
+    printf '%s: %s: %s crates are proved first, in %s to %s minutes from nothing, or up to %s on a busy machine\n' "$name" "$1" \
+        "$total" $(((total + 4) / 5)) $(((2 * total + 4) / 5)) "$total" >&2
+    shift
+    mkdir -p "$root/target" || fail "no folder could be made at $root/target"
+    log=$root/target/$2.said
+    rm -f "$log.proved"
+    still_at_work &
+    worker=$!
+    (cd "$root" && "$rt" "$@" </dev/null 2>&1 && : >"$log.proved") | tee "$log" | progress "$total"
+    { kill "$worker" && wait "$worker"; } 2>/dev/null || true
+    if [ ! -f "$log.proved" ]; then
         cat "$log" >&2
-        rm -f "$log" "$proved"
         fail "'rt $*' failed"
     fi
-    rm -f "$log" "$proved"
+    rm -f "$log" "$log.proved"
 }
