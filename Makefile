@@ -1,10 +1,14 @@
-# make run   plays a day on the tag (day/day.txt)
-# make test  the gate: the stored scripts are those of the second opinion, a generated proof is what its tool writes, everything is proved and run,
-#            each edit is refused for each thing that it changes, and the header, its structs and the example in C are what the library is
-# make long  compares the tag with the second opinion on a million lines of fresh scripts (N=1000 SEED=7: so many, from that seed)
-# make board builds the library for firmware in C, and runs a main loop over it
-# make bench times the proved tag against a plain one in C
-.PHONY: run test long scripts board bench
+# make run      plays a day on the tag (day/day.txt), and builds it first where it isn't built; make alone does this
+# make test     the gate: the stored scripts are those of the second opinion, a generated proof is what its tool writes, everything is proved and
+#               run, each edit is refused for each thing that it changes, and the header, its structs and the example in C are the library's
+# make long     tries tags that are wrong in one thing each on the stored script, then compares the tag with the second opinion on a million lines
+#               of fresh scripts (N=1000 SEED=7: so many, from that seed)
+# make board    builds the library for firmware in C, and runs a main loop over it
+# make bench    times the proved tag against a plain one in C, and counts instructions, bytes and stack
+# make scripts  writes the scripts anew that the gate plays
+# make clean    removes all that was built: the next make run proves everything again
+# make help     says this
+.PHONY: run test long board bench scripts clean help
 
 run:
 	@./day/play
@@ -13,6 +17,7 @@ test:
 	@tools/gate
 
 long:
+	@python3 second wrong
 	@./corridor --build
 	@python3 second long $(N) $(SEED)
 
@@ -22,6 +27,11 @@ board:
 bench:
 	@tools/native bench
 
-# writes the scripts anew that the gate plays
 scripts:
 	@python3 second write
+
+clean:
+	@rm -rf target
+
+help:
+	@sed -n -e 's/^# make/make/p' -e 's/^#    /    /p' Makefile
