@@ -1,4 +1,7 @@
-/* Times each kind of frame and transfer on the proved tag and on the plain one in turn. */
+/*
+ * Times each kind of frame and transfer on the proved tag and on the plain one in turn, by the processor's time that the process takes, so that
+ * others on the machine are not counted. A kind's ratio is the median of its rounds' ratios, and not the ratio of the two medians beside it.
+ */
 #include "host.h"
 #include "kinds.h"
 
@@ -58,6 +61,9 @@ static void time_kind(const struct kind *kind) {
 int program(void) {
     static struct kind kinds[KINDS];
     list_kinds(kinds);
+    print("processor time of a call, medians of ");
+    print_number(ROUNDS);
+    print(" rounds; the ratio is the median of the rounds' ratios\n");
     print("nanoseconds                     proved    plain   ratio\n");
     for (int k = 0; k < KINDS; k++)
         time_kind(&kinds[k]);

@@ -32,7 +32,7 @@ __asm__(".globl _start\n_start:\n    bl host_start\n");
 #error "a host for x86-64 and aarch64"
 #endif
 
-enum { STANDARD_OUTPUT = 1, CLOCK_MONOTONIC = 1 };
+enum { STANDARD_OUTPUT = 1, CLOCK_PROCESS_CPUTIME_ID = 2 };
 
 typedef uint64_t __attribute__((aligned(1), may_alias)) word;
 
@@ -102,7 +102,7 @@ uint64_t nanoseconds(void) {
     struct {
         long seconds, nanoseconds;
     } now;
-    system_call(SYS_CLOCK_GETTIME, CLOCK_MONOTONIC, (long)&now, 0);
+    system_call(SYS_CLOCK_GETTIME, CLOCK_PROCESS_CPUTIME_ID, (long)&now, 0);
     return (uint64_t)now.seconds * 1000000000u + (uint64_t)now.nanoseconds;
 }
 

@@ -9,7 +9,7 @@ void print(const char *text);
 void print_number(uint64_t number);
 void print_hex(uint8_t byte);
 
-/* Nanoseconds since some moment. */
+/* Nanoseconds of a processor's time that this process has taken: it stands still while others run. */
 uint64_t nanoseconds(void);
 
 /* A program's own part: its result is the exit status. */
