@@ -8,12 +8,7 @@
 /* ---- what a firmware holds: the image, the two records, and room for an answer */
 
 /* A factory-fresh board of 45 pages; page 06h will hold the reading. */
-static uint8_t image[CORRIDOR_IMAGE_45] = {
-    0x1D, 0xA2, 0x30, 0x07, 0x11, 0x09, 0x67, 0xEC, 0x93, 0x48, 0x00, 0x00, 0xE1, 0x10, 0x12, 0x00, /* UID, locks, capability */
-    0x01, 0x03, 0xA0, 0x0C, 0x34, 0x03, 0x00, 0xFE,                                                 /* pages 04h and 05h */
-    [0x29 * 4] = 0x04, [0x29 * 4 + 3] = 0xFF,                                                       /* AUTH0: no password */
-    [0x2A * 4 + 1] = 0x05, [0x2B * 4] = 0xFF, 0xFF, 0xFF, 0xFF,
-};
+static uint8_t image[CORRIDOR_IMAGE_45] = CORRIDOR_FACTORY_45;
 static uint8_t answer[CORRIDOR_ANSWER_ROOM];
 static corridor_tag_record tag;
 static corridor_bus_record bus;

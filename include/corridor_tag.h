@@ -4,8 +4,8 @@
  * The tag has two sides that share one image: radio frames after demodulation, and two-wire events after the pin driver. A firmware holds
  * the image and two records, and hands them to every call; the tag itself keeps nothing.
  *
- *     static uint8_t image[CORRIDOR_IMAGE_45];           the pages, and a tail of four bytes
- *     static uint8_t answer[CORRIDOR_ANSWER_ROOM];       where answers are put
+ *     static uint8_t image[CORRIDOR_IMAGE_45] = CORRIDOR_FACTORY_45;    the pages, and a tail of four bytes
+ *     static uint8_t answer[CORRIDOR_ANSWER_ROOM];                      where answers are put
  *     corridor_tag_record tag = corridor_field_off();
  *     corridor_bus_record bus = corridor_bus_at_rest();
  *
@@ -14,7 +14,28 @@
  * What the caller does answer for is memory: each pointer leads to as many bytes as its length says and isn't null, also where that is 0; no
  * two buffers overlap; a bool is 0 or 1.
  *
- * Link target/staticlib/libcorridor_tag.a, which `make board` writes. It needs at most memcpy, memset and memmove of its host.
+ * To build. The archive is for x86-64 today and for no other processor: ELF, position-independent, with the System V calling convention, SSE2
+ * and the red zone. It needs at most memcpy, memset and memmove of its host. `tools/native library` proves and writes it; `make board` also runs
+ * examples/ over it, built by the kit's own compiler without a C library. A program of your own, my_board.c with a main, is built in the
+ * repository's folder by any compiler of C99 or C++11:
+ *
+ *     tools/native library
+ *     cc -std=c99 -O2 -Wall -Iinclude -o my_board my_board.c target/staticlib/libcorridor_tag.a
+ *     ./my_board
+ *
+ * Interrupts. A call touches what it is given and nothing else, so calls on different images, records and buffers may run at once, in
+ * interrupts or on several cores. Two calls that share one of these may not: where the bus can interrupt a frame on the same image, hold its
+ * event back until corridor_frame has returned. docs/COST.md has how long calls take.
+ *
+ * Stack. The deepest that was measured on x86-64 is 336 bytes, the caller's frame among them (docs/COST.md).
+ *
+ * When to save the image. Three kinds of frames and one event can change it, so a copy in flash is behind only after one of these:
+ *
+ *     corridor_frame      on a record in CORRIDOR_ACTIVE, a frame that begins with
+ *                           A2h (WRITE), answered by ACK: 4 bits, 0Ah
+ *                           1Bh (PWD_AUTH), whatever is answered: the count of failed passwords
+ *                           30h or 3Ah (READ, FAST_READ), where the record's `answered` went from 0 to 1: the counter
+ *     corridor_bus_event  CORRIDOR_STOP, on a record in CORRIDOR_WRITING whose `held` isn't 0
  */
 #ifndef CORRIDOR_TAG_H
 #define CORRIDOR_TAG_H
@@ -27,12 +48,53 @@
 extern "C" {
 #endif
 
-/* ---- sizes */
+/* ---- the image */
 
-/* An image of N pages has 4 * N + 4 bytes; N is 45, 135 or 231. */
+/*
+ * N pages of four bytes, and a tail of four: byte k of page p is image[4 * p + k], and the length tells N, which is 45, 135 or 231.
+ *
+ *     what           N = 45   135      231      its four bytes
+ *     UID            00h      00h      00h      UID 0 to 2, and BCC0, which is 88h ^ UID 0 ^ UID 1 ^ UID 2
+ *                    01h      01h      01h      UID 3 to 6
+ *     static locks   02h      02h      02h      BCC1, which is UID 3 ^ .. ^ UID 6; a byte that stays; lock bits in bytes 2 and 3
+ *     capability     03h      03h      03h      the capability container, whose bits a WRITE sets and never clears
+ *     user pages     04h-27h  04h-81h  04h-E1h  yours
+ *     dynamic locks  28h      82h      E2h      lock bits in bytes 0 and 1, block bits in byte 2
+ *     settings       29h      83h      E3h      byte 3: AUTH0, the first page under password, FFh for none
+ *                    2Ah      84h      E4h      byte 0: ACCESS, bit 7 PROT (reads too), 6 settings lock, 4 counter on, 3 counter under
+ *                                               password, 2 to 0 AUTHLIM, so many wrong passwords or 0 for any number
+ *     PWD            2Bh      85h      E5h      the password; reads as zeros
+ *     PACK           2Ch      86h      E6h      bytes 0 and 1 answer the right password; reads as zeros
+ *     tail           behind the last page       bytes 0 to 2: the counter, low first; byte 3: how many wrong passwords came
+ *
+ * Every image of one of the three lengths is served, whatever its bytes are. On the wires locks and password don't bind; image bytes 0 to 9 and
+ * the tail can't be written there.
+ */
 #define CORRIDOR_IMAGE_45 184
 #define CORRIDOR_IMAGE_135 544
 #define CORRIDOR_IMAGE_231 928
+
+/*
+ * A factory-fresh image of 45 pages: nothing is locked, nothing is under password, the counter is off. day/factory.txt has the same for the
+ * program `corridor`. A board has a UID of its own: image bytes 0 to 2 and 4 to 7, and with them BCC0 in byte 3 and BCC1 in byte 8.
+ */
+#define CORRIDOR_FACTORY_45                                                                                                                \
+    {                                                                                                                                      \
+        0x1D, 0xA2, 0x30, 0x07, 0x11, 0x09, 0x67, 0xEC, 0x93, 0x48, 0x00, 0x00, /* 00h to 02h: UID, static locks */                        \
+        0xE1, 0x10, 0x12, 0x00,                                                 /* 03h: capability container */                            \
+        0x01, 0x03, 0xA0, 0x0C, 0x34, 0x03, 0x00, 0xFE,                         /* 04h, 05h: lock control, an empty message */             \
+        0, 0, 0, 0, 0, 0, 0, 0, 0, 0, 0, 0, 0, 0, 0, 0, 0, 0, 0, 0, 0, 0, 0, 0, 0, 0, 0, 0, 0, 0, 0, 0, /* 06h to 0Dh */                   \
+        0, 0, 0, 0, 0, 0, 0, 0, 0, 0, 0, 0, 0, 0, 0, 0, 0, 0, 0, 0, 0, 0, 0, 0, 0, 0, 0, 0, 0, 0, 0, 0, /* 0Eh to 15h */                   \
+        0, 0, 0, 0, 0, 0, 0, 0, 0, 0, 0, 0, 0, 0, 0, 0, 0, 0, 0, 0, 0, 0, 0, 0, 0, 0, 0, 0, 0, 0, 0, 0, /* 16h to 1Dh */                   \
+        0, 0, 0, 0, 0, 0, 0, 0, 0, 0, 0, 0, 0, 0, 0, 0, 0, 0, 0, 0, 0, 0, 0, 0, 0, 0, 0, 0, 0, 0, 0, 0, /* 1Eh to 25h */                   \
+        0, 0, 0, 0, 0, 0, 0, 0,                                                 /* 26h, 27h */                                             \
+        0x00, 0x00, 0x00, 0xBD,                                                 /* 28h: dynamic locks */                                   \
+        0x04, 0x00, 0x00, 0xFF, 0x00, 0x05, 0x00, 0x00,                         /* 29h, 2Ah: settings */                                   \
+        0xFF, 0xFF, 0xFF, 0xFF, 0x00, 0x00, 0x00, 0x00,                         /* 2Bh, 2Ch: PWD, PACK */                                  \
+        0x00, 0x00, 0x00, 0x00                                                  /* the tail */                                             \
+    }
+
+/* ---- sizes */
 
 /* The smallest answer buffer, in bytes, and the longest frame, in bits. */
 #define CORRIDOR_ANSWER_ROOM 1024
@@ -126,6 +188,10 @@ corridor_tag_record corridor_field_loss(corridor_tag_record tag);
  * A frame of `bits` bits was heard. Its bits are packed least significant first into frame_length bytes, and what is left of the last byte
  * is zero. parity_good says whether every byte's parity was right.
  *
+ * Parity bits are the front end's: it takes them off a frame and puts them into an answer, behind each eighth bit; four bits of ACK or NAK have
+ * none. CRC_A is the tag's: a frame comes with its two check bytes, and an answer has them where one is due. When an answer is due is the front
+ * end's too.
+ *
  * Puts the answer at the start of `answer`, and does to the image what the frame asks for: when the call returns, it is done. Bytes of
  * `answer` behind the answer keep their contents. A refused call (1, 2 or 3) changes neither image nor answer, and gives the record that it
  * was given.
@@ -141,6 +207,9 @@ corridor_bus_record corridor_bus_at_rest(void);
 /*
  * An event was seen on the two wires. `byte` is the byte sent, and any number for the other events. Updates the record where it is, and at a
  * stop after data bytes also the image. A refused call (1 or 4) changes neither.
+ *
+ * Hand over every event, whomever it is for. A byte for another device isn't acknowledged, and a read when the tag isn't addressed gives FFh:
+ * all ones, so the line is to be let go, as for an acknowledge bit of 0.
  */
 corridor_bus_answer corridor_bus_event(corridor_bus_record *bus, uint8_t *image, size_t image_length, uint8_t event, uint8_t byte);
 
