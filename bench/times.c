@@ -1,6 +1,7 @@
 /*
  * Times each kind of frame and transfer on the proved tag and on the plain one in turn, by the processor's time that the process takes, so that
- * others on the machine are not counted. A kind's ratio is the median of its rounds' ratios, and not the ratio of the two medians beside it.
+ * others on the machine are not counted. Prints a line for each kind: its name, the median of the rounds on the proved tag and on the plain one
+ * in nanoseconds, and the median of the rounds' ratios, which is not the ratio of the two medians. bench/links.py reads it.
  */
 #include "host.h"
 #include "kinds.h"
@@ -35,7 +36,7 @@ static void print_hundredths(uint64_t number) {
     print_number(number % 100);
 }
 
-enum { ROUNDS = 15, MIDDLE = ROUNDS / 2 };
+enum { ROUNDS = 31, MIDDLE = ROUNDS / 2 };
 
 static void time_kind(const struct kind *kind) {
     uint64_t ratio[ROUNDS], first[ROUNDS], second[ROUNDS];
@@ -61,10 +62,6 @@ static void time_kind(const struct kind *kind) {
 int program(void) {
     static struct kind kinds[KINDS];
     list_kinds(kinds);
-    print("processor time of a call, medians of ");
-    print_number(ROUNDS);
-    print(" rounds; the ratio is the median of the rounds' ratios\n");
-    print("nanoseconds                     proved    plain   ratio\n");
     for (int k = 0; k < KINDS; k++)
         time_kind(&kinds[k]);
     return 0;
