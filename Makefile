@@ -34,4 +34,4 @@ clean:
 	@rm -rf target
 
 help:
-	@sed -n -e 's/^# make/make/p' -e 's/^#    /    /p' Makefile
+	@sed -n -e 's/^# make/make/p' -e 's/^#     /    /p' Makefile
