@@ -4,13 +4,14 @@
 gives the answering line, or None for a line that is skipped.
 """
 
-from lines.reading import BadLine, command_of, is_skipped
+from lines.reading import BadLine, command_of, is_skipped, without_return
+from lines.records import bus_in_words, tag_in_words
 from tag.bits import bytes_of
 from tag.calls import EVENTS, Refused, Tag
 from tag.frames import SILENCE
 
 HELP = ("commands: image HEX, buffer N, field, frame BITS HEX, parity BITS HEX, "
-        "start, stop, send HH, read ack, read nak, event N HH, show, help")
+        "start, stop, send HH, read ack, read nak, event N HH, show, show HH, tag, bus, help")
 
 
 class Player:
@@ -21,13 +22,14 @@ class Player:
         self.buffer_length = 1024
 
     def answer(self, line):
-        if is_skipped(line):
+        text = without_return(line)
+        if is_skipped(text):
             return None
         try:
-            word, arguments = command_of(line)
+            word, arguments = command_of(text)
             return getattr(self, f"play_{word}")(*arguments).encode("ascii")
-        except BadLine:
-            return b"error"
+        except BadLine as bad:
+            return f"error: {bad}".encode("ascii")
         except Refused as refused:
             return f"refused {refused.number}".encode("ascii")
 
@@ -73,13 +75,25 @@ class Player:
             return "ack" if result else "nak"
         return f"byte {result:02X}"
 
-    def play_show(self):
-        return written("image", self.tag.image.everything())
+    def play_show(self, page=None):
+        """"the image as it stands", or "those of the four bytes of page HH that
+        the image has": its tail's too, and PWD and PACK as they are."""
+        image = self.tag.image.everything()
+        if page is None:
+            return written("image", image)
+        return written("page", image[4 * page:4 * page + 4])
+
+    def play_tag(self):
+        return tag_in_words(self.tag.radio)
+
+    def play_bus(self):
+        return bus_in_words(self.tag.bus)
 
     def play_help(self):
         return HELP
 
 
 def written(word, data):
-    """A word and bytes behind it: "`image` alone where it is empty"."""
+    """A word and bytes behind it: "`image` alone where it is empty", "`page` alone
+    where it has none of them"."""
     return f"{word} {bytes(data).hex().upper()}" if data else word

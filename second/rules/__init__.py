@@ -6,12 +6,14 @@ stood, the line, the answer, how it stands then. The tag knows nothing of it.
 """
 
 from lines.reading import lines_of
-from rules import (active, bad_lines, both_sides, bus, counter, lines, locks, password, reads, refusals,
-                   selection, waiting, writes)
+from rules import (active, bad_lines, both_sides, bus, counter, lines, locks, password, reads, records,
+                   refusals, returns, selection, waiting, writes)
 from rules.step import Watched
 
 GROUPS = {
     "LINES.md: the lines": lines.RULES,
+    "LINES.md: the board in words": records.RULES,
+    "LINES.md: carriage returns": returns.RULES,
     "LINES.md: bad lines": bad_lines.RULES,
     "Numbers for a refused call": refusals.RULES,
     "Radio states: IDLE, HALT, field loss": waiting.RULES,
@@ -32,21 +34,21 @@ GROUPS = {
 
 RULES = {key: sentence for group in GROUPS.values() for key, sentence in group.items()}
 
-OBSERVERS = [lines.met, bad_lines.met, refusals.met, waiting.met, selection.met, active.met,
-             reads.met, counter.met, password.met, writes.met, locks.met, bus.met, both_sides.met]
+OBSERVERS = [lines.met, records.met, returns.met, bad_lines.met, refusals.met, waiting.met, selection.met,
+             active.met, reads.met, counter.met, password.met, writes.met, locks.met, bus.met, both_sides.met]
 
 
 def rules_met(step, line, observers=OBSERVERS):
     """The keys of the rules that a step meets; `step` is None for a skipped line."""
     if step is None:
-        return list(lines.of_skipped(line))
+        return [*lines.of_skipped(line), *returns.of_skipped(line)]
     return [key for observer in observers for key in observer(step)]
 
 
 def observers_of(key):
     """Those that can find this rule."""
-    groups = [lines, bad_lines, refusals, waiting, selection, active, reads, counter, password, writes,
-              both_sides]
+    groups = [lines, records, returns, bad_lines, refusals, waiting, selection, active, reads, counter,
+              password, writes, both_sides]
     found = [group.met for group in groups if key in group.RULES]
     return found or [locks.met, bus.met]
 
@@ -64,7 +66,7 @@ def play_and_count(text):
         answers.append(answer)
         for key in rules_met(step, line):
             counts[key] += 1
-    for key in lines.of_text(text):
+    for key in (*lines.of_text(text), *returns.of_text(text)):
         counts[key] += 1
     return lines_of(text), answers, counts
 

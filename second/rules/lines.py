@@ -1,12 +1,12 @@
 """The lines of LINES.md."""
 
-from lines.reading import LARGEST_FRAME, LARGEST_IMAGE, LARGEST_NUMBER, LONGEST_LINE
+from lines.reading import LARGEST_FRAME, LARGEST_IMAGE, LARGEST_NUMBER, LONGEST_LINE, without_return
 from rules.naming import each
 
 RULES = {
     **each("line", ["image", "image-alone", "buffer", "field", "frame", "frame-without-hex",
                     "parity", "parity-without-hex", "start", "stop", "send", "read-ack",
-                    "read-nak", "show", "show-empty", "help"],
+                    "read-nak", "show", "show-empty", "show-page", "tag", "bus", "help"],
            "the table of lines: {}"),
     **each("line.event", ["0", "1", "2", "3", "4", "other"],
            "`event N HH`: the two-wire event of number N ({})"),
@@ -43,6 +43,8 @@ def of_skipped(line):
     """The rules that a skipped line meets."""
     if line == b"":
         yield "line.skipped/empty"
+    line = without_return(line)
+    if line == b"":
         return
     yield "line.skipped/comment"
     if len(line) > LONGEST_LINE:
@@ -54,10 +56,10 @@ def of_skipped(line):
 def met(step):
     if step.word is None:
         return
-    words = step.line.decode("ascii").split(" ")
+    words = step.text.decode("ascii").split(" ")
     yield from of_word(step, words)
     yield from of_limits(step)
-    hex_word = {"image": 1, "frame": 2, "parity": 2, "send": 1, "event": 2}.get(words[0])
+    hex_word = {"image": 1, "frame": 2, "parity": 2, "send": 1, "event": 2, "show": 1}.get(words[0])
     if hex_word and hex_word < len(words):
         yield from of_hex(words[hex_word])
     if words[0] in ("buffer", "frame", "parity", "event"):
@@ -74,6 +76,8 @@ def of_word(step, words):
         yield f"line.event/{step.number if step.number < 5 else 'other'}"
     elif step.word == "read":
         yield f"line/read-{words[1]}"
+    elif step.word == "show" and step.arguments:
+        yield "line/show-page"
     elif step.word == "show":
         yield "line/show" if step.image.everything() else "line/show-empty"
     else:

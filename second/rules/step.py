@@ -4,7 +4,8 @@ from functools import cached_property
 from typing import NamedTuple
 
 from lines.player import Player
-from lines.reading import BadLine, command_of, is_skipped
+from lines.reading import BadLine, command_of, is_skipped, without_return
+from rules.bad_lines import error_of
 from state import put_state, state_of
 from tag.bits import bits_of, bytes_of
 from tag.calls import EVENTS
@@ -36,9 +37,11 @@ class Step:
 
     def __init__(self, before, line, answer, after, memory):
         self.before, self.line, self.answer, self.after = before, line, answer, after
+        self.text = without_return(line)
         self.memory = memory
         self.image = before.tag.image
-        self.word, self.arguments = words_and_arguments(line)
+        self.word, self.arguments = words_and_arguments(self.text)
+        self.error = error_of(self.text) if self.word is None else None
         self.refused = int(answer[8:]) if answer.startswith(b"refused ") else None
         self.nak = NAK_ANSWERS.get(answer)
         self.acked = answer == ACK_ANSWER
@@ -90,10 +93,10 @@ EVENT_OF_WORD = {
     "read": lambda acknowledged: "read-ack" if acknowledged else "read-nak"}
 
 
-def words_and_arguments(line):
+def words_and_arguments(text):
     """The command word and its arguments; None for a bad line."""
     try:
-        return command_of(line)
+        return command_of(text)
     except BadLine:
         return None, []
 
@@ -107,7 +110,7 @@ class Watched:
 
     def play(self, line):
         """The answer to a line, and the step; no step for a line that is skipped."""
-        if is_skipped(line):
+        if is_skipped(without_return(line)):
             return None, None
         put_state(self.before, state_of(self.player))
         answer = self.player.answer(line)

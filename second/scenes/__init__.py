@@ -2,7 +2,7 @@
 
 A scene takes a Script, which knows the tag, and adds lines to it. The scenes of
 a part have the name of its rules: refusals, waiting, selection, active, reads,
-writes, locks, password, bus, both_sides, lines. Beside them:
+writes, locks, password, bus, both_sides, lines, records, returns. Beside them:
 
     dice        random numbers
     images      the bytes of an image

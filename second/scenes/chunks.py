@@ -42,6 +42,14 @@ def each_length(s):
         across(s, line_of_length(length), length // 2)
 
 
+def returns_across_chunks(s):
+    """A carriage return that ends a chunk, its newline in the next; one that begins
+    a chunk; and one that ends a chunk while its line goes on: it is wrong there."""
+    s.image(45)
+    for line, front in [(b"read ack\r", 8), (b"read ack\r", 9), (b"read ack\r\r", 9), (b"st\rop", 3)]:
+        across(s, line, front)
+
+
 def long_across_chunks(s):
     """Long lines over several chunks. Images, which answer how long they are; the
     longest line, which is an error without its front; and lines that are an
@@ -72,7 +80,8 @@ def many_turns(s):
 def stored(s):
     split_at_each_place(s)
     each_length(s)
+    returns_across_chunks(s)
     long_across_chunks(s)
 
 
-RARE = [long_across_chunks]
+RARE = [long_across_chunks, returns_across_chunks]

@@ -7,20 +7,22 @@ LONGEST = b"parity 65535 " + b"A5" * 8192
 # A bad line of each kind that rules/bad_lines.py names. Taken for good, most of
 # them would do something that shows.
 BAD_LINE_OF_EACH_KIND = [
-    b"hello", b"STOP", b"stop\t", b"stop\r", b"stop\0", b"st\xf6p", b"read  ack", b" stop", b"stop ",
+    b"hello", b"STOP", b"stop\t", b"stop\r\r", b"stop\0", b"st\xf6p", b"sto", b"stopp", b"read  ack", b" stop",
+    b"stop ", b"send \t", b"send A0\r\r", b"send A0\0", b"send A\xb0",
     b"send 5", b"send 5g", b"event +1 00", b"event 1", b"stop 00", b"read Ack", b"send A0A1",
     b"event 65536 00", b"event 65537 00", b"event 000001 00", b"buffer 1025", b"buffer 65535",
     b"image " + b"5A" * 1025, b"image " + b"5A" * 1026,
     b"frame 512 " + b"00" * 8193, b"frame 7 " + b"00" * 8194, LONGEST + b"0", LONGEST + b"A5"]
 
 # Lines that do nothing to the tag, though they are good.
-IDLE_LINES = [b"", b"#", b"# \t\r\0 \xff odd bytes", b"#" + b" long" * 3280, b"help", b"show",
+IDLE_LINES = [b"", b"#", b"# \t\r\0 \xff odd bytes", b"#" + b" long" * 3280, b"help", b"show", b"show 04",
+              b"show 2D", b"tag", b"bus",
               b"buffer 1024", b"buffer 1023", b"buffer 0"]
 
 BAD_LINES = [
     b"hello", b"shows", b"sho", b"imag", b"image00", b"Image", b"SHOW", b"fielD", b"FRAME 7 52",
     b"\tshow", b"show\t", b"frame\t7 52", b"frame 7\t52", b"# \tno comment"[1:],
-    b"show\r", b"\r", b"frame 7 52\r", b"sho\0w", b"\0", b"frame 7 52\0", b"sh\xf6w", b"\xff",
+    b"show\r\r", b"\r\r", b"frame 7 52\r\r", b"sho\0w", b"\0", b"frame 7 52\0", b"sh\xf6w", b"\xff",
     b"frame 7 5\xb2", b"frame  7 52", b"frame 7  52", b"read  ack", b" show", b"  ", b" ", b" # x",
     b"show ", b"image ", b"frame 7 ", b"frame 7 52 ", b"start ", b"frame 7 5", b"image 0",
     b"image 001", b"send A", b"event 0 0", b"frame 7 5G", b"image 0x", b"send -1", b"send 0x",
@@ -32,29 +34,34 @@ BAD_LINES = [
     b"event 2 A0A1", b"frame 65536", b"frame 65536 00", b"buffer 65536", b"event 65536 00",
     b"frame 99999 00", b"buffer 70000", b"frame 000007 52", b"frame 000000", b"buffer 001024",
     b"event 000000 00", b"event 100000 00", b"frame 4294967303 52", b"frame 18446744073709551623 52",
-    b"buffer 1025", b"buffer 65535", b"buffer 1026", b"buffer 01025"]
+    b"buffer 1025", b"buffer 65535", b"buffer 1026", b"buffer 01025", b"show 001", b"show 0001", b"show 100",
+    b"show 0G", b"show -1", b"show all", b"show 00 01", b"show  00", b"show 00 ", b"show00", b"tag 1", b"tag ",
+    b"Tag", b"tags", b"ta", b"tag bus", b"bus 4000", b"bus ", b"BUS", b"buss", b"bu", b"help tag", b"error",
+    b"page 00", b"idle", b"nak", b"read"]
 
 GOOD_LINES = [
     b"help", b"", b"#", b"# a comment", b"#show", b"# \t\r\0 \xff odd bytes", b"buffer 1024",
     b"buffer 01024", b"frame 00007 52", b"frame 7 26", b"frame 65535", b"frame 65535 00", b"frame 0",
     b"parity 0", b"frame 00000", b"parity 007 26", b"send 0a", b"send aB", b"event 00000 00",
-    b"event 1 ff", b"event 03 00", b"event 4 00", b"show"]
+    b"event 1 ff", b"event 03 00", b"event 4 00", b"show", b"show 2c", b"show 2D", b"show fF", b"tag", b"bus"]
 
 
 def odd_lines(s, amount):
     """Bad lines among good ones: a bad one changes nothing."""
     for _ in range(amount):
         s.say(s.dice.one_of(BAD_LINES))
+        s.ask()
         if s.dice.one_in(3):
             s.say(s.dice.one_of(GOOD_LINES))
 
 
 def every_odd_line(s):
-    """All bad and good lines, in ACTIVE."""
+    """All bad and good lines, in ACTIVE; what each leaves behind is asked."""
     s.image(45)
     s.active()
     for line in s.dice.shuffled(BAD_LINES + GOOD_LINES):
         s.say(line)
+        s.ask()
 
 
 def changes_nothing(s, line):
@@ -85,7 +92,7 @@ def changes_nothing(s, line):
 
 
 def lines_that_change_nothing(s):
-    """Bad lines of each kind, comments, empty lines, `help` and `show`."""
+    """Bad lines of each kind, comments, empty lines, `help`, `show`, `tag`, `bus`."""
     s.image(45)
     for line in BAD_LINE_OF_EACH_KIND + IDLE_LINES:
         changes_nothing(s, line)
@@ -120,9 +127,10 @@ def spoiled_lines(s, amount):
     dice = s.dice
     for _ in range(amount):
         line = dice.one_of([b"frame 7 52", b"read ack", b"read nak", b"send A0", b"event 2 A0", b"stop",
-                            b"start", b"buffer 1024", b"help", b"field", b"parity 16 9320"])
+                            b"start", b"buffer 1024", b"help", b"field", b"parity 16 9320", b"tag", b"bus",
+                            b"show 04", b"stop\r", b"send A1\r"])
         place = dice.below(len(line) + 1)
-        put = bytes([dice.one_of([0x20, 0x09, 0x30, 0x41, 0x61, 0x67, dice.byte()])])
+        put = bytes([dice.one_of([0x20, 0x09, 0x30, 0x41, 0x61, 0x67, 0x0D, dice.byte()])])
         put = b"" if put == b"\n" else put
         s.say(line[:place] + put + line[place + dice.below(2):])
     s.usual_buffer()

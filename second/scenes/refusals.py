@@ -19,10 +19,13 @@ def refused_by_image(s):
         s.raw_image(dice.bytes(length))
         s.frame(WUPA)
         s.say(dice.one_of(["frame 0", "frame 7 A6", "parity 8"]))
+        s.ask()
         for event in dice.some(3, range(5)):
             s.event(event, 0xA0)
+            s.ask()
         s.say(f"event {dice.between(5, 65535)} 00")
         s.say("field")
+        s.ask()
 
 
 def refused_frames(s, size):
@@ -81,7 +84,7 @@ def refused_frames_one_by_one(s):
 def before_any_image(s):
     """1, before the first `image` line: "the image is empty"."""
     for line in ("show", "frame 7 52", "start", "send A0", "read ack", "read nak", "stop", "event 5 00",
-                 "field", "parity 0", "show"):
+                 "field", "parity 0", "show", "tag", "bus", "show 00", "show FF", "tag", "bus"):
         s.say(line)
 
 

@@ -22,17 +22,29 @@ class Script(RadioLines, BusLines):
         self.answered = 0           # how many of the lines got an answer
         self.length = 0             # of the text so far, with its newlines
         self.reads_on_entry = True  # ACTIVE is entered with a READ
+        self.returns = False        # lines end with CRLF
 
     def say(self, line):
         line = line if isinstance(line, bytes) else line.encode("ascii")
+        line += b"\r" if self.returns else b""
         self.lines.append(line)
         self.length += len(line) + 1
         if self.player.answer(line) is not None:
             self.answered += 1
 
+    def ask(self):
+        """Both records in words."""
+        self.say("tag")
+        self.say("bus")
+
+    def ask_twice(self):
+        """The second answers show that the first questions changed nothing."""
+        self.ask()
+        self.ask()
+
     def comment_up_to(self, place):
         """A comment behind which the next line begins at this place of a chunk."""
-        missing = (place - self.length - 2) % 4096
+        missing = (place - self.length - 2 - self.returns) % 4096
         self.say("#" + "." * missing)
 
     def text(self):
@@ -71,6 +83,7 @@ class Script(RadioLines, BusLines):
 
     def take_leave(self):
         """Shows how both sides stand, and the image with its tail."""
+        self.ask()
         if self.layout and self.player.buffer_length == 1024:
             self.look_at_radio()
         if self.layout:

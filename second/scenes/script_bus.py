@@ -40,17 +40,21 @@ class BusLines:
     def look_at_silent_bus(self):
         """At rest or deaf: a read gives FFh, but in a read; a byte isn't
         acknowledged, but in any other phase."""
+        self.say("bus")
         self.event(3)
         self.send(0xA0)
 
     def look_at_counter(self):
         """Reads on from where the counter stands: ends at rest."""
+        self.say("bus")
         self.read_on(2)
         self.event(3)                               # FFh: deaf
         self.stop()
 
     def look_at_bus(self):
-        """Shows the phase by events that belong to it, and then the counter."""
+        """Asks for the bus record; then shows the phase by events that belong to
+        it, and the counter by reading."""
+        self.say("bus")
         if self.bus.phase in ("rest", "deaf"):
             self.look_at_silent_bus()
         elif self.bus.phase == "device":

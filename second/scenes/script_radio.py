@@ -70,8 +70,9 @@ class RadioLines:
             self.command(0x30, min(self.tag_image.auth0() or size, size) - 1)
 
     def look_at_radio(self):
-        """Shows the radio's state, what it keeps for later, and the wait state:
-        ends in ACTIVE."""
+        """Asks for the radio's record; then shows the state, what it keeps for
+        later, and the wait state, by what is answered: ends in ACTIVE."""
+        self.say("tag")
         if self.radio.state == "ACTIVE":
             self.read_over_border()
         if self.radio.state not in ("IDLE", "HALT"):

@@ -6,15 +6,16 @@ fresh script draws from, `OF_ANY_KIND`, `OF_ANY_SIZE`, and `RARE`, which are lon
 """
 
 from rules.naming import SIZES
-from scenes import (active, both_sides, bus, chunks, lines, locks, password, reads, refusals, selection,
-                    waiting, writes)
+from scenes import (active, both_sides, bus, chunks, lines, locks, password, reads, records, refusals, returns,
+                    selection, waiting, writes)
 from scenes.chunks import many_turns
 from scenes.examples import example_lines
 from scenes.refusals import before_any_image
 from scenes.script import Script
 from scenes.walks import any_walk
 
-PARTS = [lines, refusals, waiting, selection, active, reads, writes, locks, password, bus, both_sides, chunks]
+PARTS = [lines, refusals, waiting, selection, active, reads, writes, locks, password, bus, both_sides, chunks,
+         records, returns]
 STORED_WALKS = 30
 
 
@@ -44,7 +45,7 @@ def any_scene(s):
 def stored_script():
     """The text that is kept: lines before any image, the examples, every scene,
     some walks, and more lines than sixteen bits count. Its last line has no
-    newline."""
+    newline, but a carriage return."""
     s = Script(seed=14443)
     before_any_image(s)
     for line in example_lines():
@@ -57,17 +58,20 @@ def stored_script():
     for _ in range(STORED_WALKS):
         any_walk(s)
     many_turns(s)
-    s.say("show")
+    s.say("show\r")
     return s.text()
 
 
 def fresh_script(seed, lines_wished):
-    """A text of this many lines, and a few more, from a seed."""
+    """A text of this many lines, and a few more, from a seed. Some scenes have
+    lines that end with CRLF; the last line has one of four ends."""
     s = Script(seed)
     while len(s.lines) < lines_wished:
+        s.returns = s.dice.one_in(8)
         if s.dice.one_in(60):
             s.dice.one_of(RARE)(s)
         else:
             any_scene(s)
+    s.returns = False
     s.say("show")
-    return s.text()
+    return s.text() + s.dice.one_of([b"", b"\n", b"\r", b"\r\n"])

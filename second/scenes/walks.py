@@ -83,6 +83,10 @@ def walk(s, steps):
             s.say("buffer 1024")
         elif kind == 4 and s.layout.size == 45:
             s.say("show")
+        elif kind == 5:
+            s.say(f"show {dice.one_of([dice.byte(), dice.below(s.layout.size + 2)]):02X}")
+        elif kind < 14:
+            s.say(dice.one_of(["tag", "bus"]))
         elif dice.below(10) < bus_share:
             bus_step(s)
         else:

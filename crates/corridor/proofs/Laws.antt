@@ -33,7 +33,7 @@ use Rattle.lines.specs.declared.read.Verb.the-variants as verb
 use Rattle.lines.specs.declared.read.Asked.{Asked}
 use Rattle.lines.specs.declared.write.Answer.{Answer}
 use Rattle.lines.specs.declared.write.Answer.the-variants as answer
-use Rattle.lines.specs.Said.{verbOf, saidOf, isSkipped, Fits, AskedFits}
+use Rattle.lines.specs.Said.{unended, verbOf, saidOf, isSkipped, Fits, AskedFits}
 use Rattle.lines.specs.Told as told
 use Rattle.lines.specs.Told.{Told, partsOf, bytesIn, tells, AnswerFits}
 use Rattle.corridor.specs.Played.{Board, opening, takes, lends, loses, replyTold, callTold, hears, kindTold, eventTold, sees, obeyed, played, answerTo, boardAfter}
@@ -253,24 +253,23 @@ module _ (b : Board) (asked : Asked) (sent img buf : List ℕ) (r : Acted) where
       (subst⁻¹ (λ (n : ℕ). Acts (obeyed b (asked .verb) n (getD (take (asked .given .count) numbers) 1 0) (take (asked .given .end) sent)) r img buf) (f .numbers 0)
       (subst⁻¹ (λ (m : ℕ). Acts (obeyed b (asked .verb) (getD numbers 0 0) m (take (asked .given .end) sent)) r img buf) (f .numbers 1) a))
 
-pub responded-nothing : (session : Session) (img line out : List ℕ) (b : Bool) → Within session → b ≡ isSkipped line → b ≡ true
-    → Answers (boardOf session img) line (record { session = session; length = 0 }) img out
-unfolding answerTo boardAfter
-responded-nothing session img line out b w e t =
-    record { within = record { size = w .size; lent = w .lent }; room = omega arith; board = rw (← e, t); text = rw (← e, t) }
+-- a line of a buffer, of which w is what is left without a carriage return at its end
+module _ (session : Session) (img line w out : List ℕ) (b : Bool) (u : w ≡ unended line) (e : b ≡ isSkipped w) where
+  pub responded-nothing : Within session → b ≡ true → Answers (boardOf session img) line (record { session = session; length = 0 }) img out
+  unfolding answerTo boardAfter
+  responded-nothing s t = record { within = record { size = s .size; lent = s .lent }; room = omega arith; board = rw (← u, ← e, t); text = rw (← u, ← e, t) }
 
-pub responded : (session : Session) (asked : Asked) (acted : Acted) (img img′ buf sent line out : List ℕ) (r : ℕ) (b : Bool)
-    → b ≡ isSkipped line → b ≡ false
-    → (asked .verb ≡ verbOf line) × (saidBy (asked .given) sent ≡ saidOf line)
-    → Acts (played (boardOf session img) (asked .verb) (saidBy (asked .given) sent)) acted img′ buf
-    → r ≤ 2080
-    → Line (partsOf (tells (acted .told) buf img′)) r out
-    → Answers (boardOf session img) line (record { session = acted .session; length = r }) img′ out
-unfolding answerTo boardAfter
-responded session asked acted img img′ buf sent line out r b e f (v, s) a room l =
-    record {
-      within = a .within;
-      room = room;
-      board = rw (← e, f, ← s, ← v) (a .board);
-      text = rw (← e, f, ← s, ← v) (l .whole ∙ ap (λ (t : Told). lineText (partsOf t)) (a .told));
-    }
+  pub responded : (asked : Asked) (acted : Acted) (img′ buf sent : List ℕ) (r : ℕ) → b ≡ false
+      → (asked .verb ≡ verbOf w) × (saidBy (asked .given) sent ≡ saidOf w)
+      → Acts (played (boardOf session img) (asked .verb) (saidBy (asked .given) sent)) acted img′ buf
+      → r ≤ 2080
+      → Line (partsOf (tells (acted .told) buf img′)) r out
+      → Answers (boardOf session img) line (record { session = acted .session; length = r }) img′ out
+  unfolding answerTo boardAfter
+  responded asked acted img′ buf sent r f (v, s) a room l =
+      record {
+        within = a .within;
+        room = room;
+        board = rw (← u, ← e, f, ← s, ← v) (a .board);
+        text = rw (← u, ← e, f, ← s, ← v) (l .whole ∙ ap (λ (t : Told). lineText (partsOf t)) (a .told));
+      }

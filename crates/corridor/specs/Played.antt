@@ -1,26 +1,36 @@
 -- What the corridor program does with a line: the table of the lines, over the definitions of the tag. Assumes nothing.
 use Prim.Native.Nat.{ℕ, _+_}
 use mathlib.Core.Bool.{Bool, true, false, cond}
-use mathlib.Core.List.{List, []}
+use mathlib.Core.List.{List, [], _∷_}
 use lib.Dec.{eqb}
 use lib.ListN.{length, getD}
 use Rattle.tag.specs.Outcome.{Reply, bitsOf, answerOf, apply}
+use Rattle.tag.specs.declared.state.Wait.{Wait}
+use Rattle.tag.specs.declared.state.Wait.the-variants.{ToIdle, ToHalt}
+use Rattle.tag.specs.declared.state.State.{State}
+use Rattle.tag.specs.declared.state.State.the-variants.{Idle, Halt, Ready1, Ready2, Active}
+use Rattle.tag.specs.declared.state.Tag.{Tag}
 use Rattle.tag.specs.State.{fieldOff}
 use Rattle.tag.specs.declared.record.TagRecord.{TagRecord}
-use Rattle.tag.specs.Record.{recordOf, fieldLoss}
+use Rattle.tag.specs.Record.{tagOf, recordOf, fieldLoss}
 use Rattle.radio.specs.Call.{Called, called}
 use Rattle.two_wire.specs.declared.record.BusRecord.{BusRecord}
 use Rattle.two_wire.specs.declared.answer.BusAnswer.{BusAnswer}
-use Rattle.two_wire.specs.Record.{atRest}
+use Rattle.two_wire.specs.declared.record.Phase.{Phase}
+use Rattle.two_wire.specs.declared.record.Phase.the-variants.{Rest, Device, High, Low, Writing, Reading, Deaf}
+use Rattle.two_wire.specs.Record.{phaseOf, atRest}
+use Rattle.two_wire.specs.Gathered.{gathered}
 use Rattle.two_wire.specs.Answer as wires
 use Rattle.two_wire.specs.Event.{after, does}
 use Rattle.words.specs.Args.{Said, given, unknown, wrong, long}
 use Rattle.laying.specs.Parts.{lineText}
 use Rattle.lines.specs.declared.read.Verb.{Verb}
 use Rattle.lines.specs.declared.read.Verb.the-variants as verb
-use Rattle.lines.specs.Said.{verbOf, saidOf, isSkipped}
+use Rattle.lines.specs.declared.write.Word.{Word}
+use Rattle.lines.specs.declared.write.Word.the-variants as word
+use Rattle.lines.specs.Said.{unended, verbOf, saidOf, isSkipped}
 use Rattle.lines.specs.Told as told
-use Rattle.lines.specs.Told.{Told, partsOf}
+use Rattle.lines.specs.Told.{Told, pageIn, partsOf}
 
 -- what is kept from line to line
 pub record Board : Type 0 where
@@ -86,8 +96,42 @@ sees b number byte =
       told = eventTold (wires.answerOf (o .reply));
     }
 
+-- a line that leaves all as it was
 abbrev pub answers : Board → Told → Played
 answers b t = record { board = b; told = t }
+
+-- "`image HEX`, the image as it stands"; of `show HH`, whose byte is in xs, "`page HEX`: those of the four bytes of page HH that the image has"
+abbrev pub shows : List ℕ → List ℕ → Told
+shows img [] = told.shown img
+shows img (page ∷ xs) = told.page (pageIn page img)
+
+-- "the tag record in words": "W being `idle` or `halt`, the state to go back to", and whether "a READ or FAST_READ was answered in this field"
+abbrev pub waitTold : Wait → Word
+waitTold ToIdle = word.Idle
+waitTold ToHalt = word.Halt
+
+abbrev pub stateTold : State → Bool → Told
+stateTold Idle answered = told.tag word.Idle answered
+stateTold Halt answered = told.tag word.Halt answered
+stateTold (Ready1 w) answered = told.tagBack word.Ready1 (waitTold w) false answered
+stateTold (Ready2 w) answered = told.tagBack word.Ready2 (waitTold w) false answered
+stateTold (Active w authenticated) answered = told.tagBack word.Active (waitTold w) authenticated answered
+
+unfoldable pub tagTold : TagRecord → Told
+tagTold r = let t = tagOf r in stateTold (t .state) (t .answered)
+
+-- "the bus record in words": "HHHH is the counter", "the high address byte held", "how many places are gathered, 0 to 64"
+abbrev pub phaseTold : Phase → BusRecord → Told
+phaseTold Rest r = told.bus word.Rest (r .counter)
+phaseTold Device r = told.bus word.Device (r .counter)
+phaseTold High r = told.bus word.High (r .counter)
+phaseTold Low r = told.busLow (r .counter) (r .held)
+phaseTold Writing r = told.busWriting (r .counter) (gathered r)
+phaseTold Reading r = told.bus word.Reading (r .counter)
+phaseTold Deaf r = told.bus word.Deaf (r .counter)
+
+unfoldable pub busTold : BusRecord → Told
+busTold r = phaseTold (phaseOf (r .phase)) r
 
 -- each line of the table: n and m are its first two numbers, and xs are its bytes
 abbrev pub obeyed : Board → Verb → ℕ → ℕ → List ℕ → Played
@@ -102,20 +146,23 @@ obeyed b verb.Send n m xs = sees b 2 n
 -- "3 read with ACK, 4 read without": `ack` is 0 and `nak` 1
 obeyed b verb.Read n m xs = sees b (3 + n) 0
 obeyed b verb.Event n m xs = sees b n m
-obeyed b verb.Show n m xs = answers b (told.shown (b .image))
+obeyed b verb.Show n m xs = answers b (shows (b .image) xs)
 obeyed b verb.Help n m xs = answers b told.help
+obeyed b verb.Tag n m xs = answers b (tagTold (b .tag))
+obeyed b verb.Bus n m xs = answers b (busTold (b .bus))
 
--- "Any other line is answered by `error` and changes nothing"
+-- "Instead of `error` alone: `error: no such command` where the first word is none of the commands .., `error: not how this command is
+-- written` where what follows it is wrong, `error: line too long`, which goes before both". Each "changes nothing".
 abbrev pub played : Board → Verb → Said → Played
 played b v (given ns xs) = obeyed b v (getD ns 0 0) (getD ns 1 0) xs
-played b v unknown = answers b told.error
-played b v wrong = answers b told.error
-played b v long = answers b told.error
+played b v unknown = answers b told.noSuchCommand
+played b v wrong = answers b told.notSoWritten
+played b v long = answers b told.tooLong
 
--- The whole of a line: what it is answered by, and the board that it leaves.
--- "Empty lines, and lines that begin with `#`, are skipped and answered by nothing"
+-- The whole of a line: what it is answered by, and the board that it leaves. "A carriage return at the end of a line is dropped";
+-- "Empty lines, and lines that begin with `#`, are skipped and answered by nothing".
 unfoldable pub answerTo : Board → List ℕ → List ℕ
-answerTo b line = cond (isSkipped line) [] (lineText (partsOf (played b (verbOf line) (saidOf line) .told)))
+answerTo b line = let l = unended line in cond (isSkipped l) [] (lineText (partsOf (played b (verbOf l) (saidOf l) .told)))
 
 unfoldable pub boardAfter : Board → List ℕ → Board
-boardAfter b line = cond (isSkipped line) b (played b (verbOf line) (saidOf line) .board)
+boardAfter b line = let l = unended line in cond (isSkipped l) b (played b (verbOf l) (saidOf l) .board)

@@ -1,19 +1,25 @@
 // The calls to the tag, on the parts of the program's buffers that they are lent, and what their outcomes tell.
 use lines::write::Answer;
+use lines::write::Word;
 use tag::record::TagRecord;
+use tag::record::tag_of;
+use tag::state::State;
+use tag::state::Wait;
 use two_wire::BusAnswer;
 use two_wire::BusRecord;
 use two_wire::BusStep;
+use two_wire::Phase;
+use two_wire::phase_of;
 ghost use mathlib.Core.Path.{_≡_};
 ghost use mathlib.Core.List.{List};
-ghost use Prim.Native.Nat.{ℕ, _≤_};
+ghost use Prim.Native.Nat.{ℕ, _≤_, min};
 ghost use lib.ListN.{length, take};
 ghost use Rattle.tag.specs.Outcome.{bitsOf, answerOf};
 ghost use Rattle.radio.specs.Call.{Called, called, Met};
 ghost use Rattle.two_wire.specs.declared.record.BusRecord.{BusRecord as Bus};
 ghost use Rattle.two_wire.specs.Event.{does, Did};
 ghost use Rattle.lines.specs.Told.{tells, bytesIn, AnswerFits};
-ghost use Rattle.corridor.specs.Played.{callTold, eventTold};
+ghost use Rattle.corridor.specs.Played.{callTold, eventTold, waitTold, tagTold, busTold};
 
 // The frame call on the first `size` bytes of `image`, the first `lent` of `answer` and the first `count` of `bytes`.
 pub fn call_frame(
@@ -89,4 +95,57 @@ pub fn event_told(answer: BusAnswer) -> Answer
         return Answer::Declined;
     }
     Answer::Acknowledged
+}
+
+// The state to go back to.
+fn wait_told(wait: Wait) -> Word
+    ensures { λ r. ⌜ r ≡ waitTold wait ⌝ }
+{
+    match wait {
+        Wait::ToIdle => Word::Idle,
+        Wait::ToHalt => Word::Halt,
+    }
+}
+
+// Where a tag stands. What a record without a meaning counts as is the tag's to say.
+pub fn tag_told(rec: TagRecord) -> Answer
+    ensures { λ r. ⌜ AnswerFits r ⌝ }
+    ensures { λ r. ⌜ ((buf img : List ℕ) → tells r buf img ≡ tagTold rec) ⌝ }
+{
+    let tag = tag_of(rec);
+    let state = tag.state;
+    let answered = tag.answered;
+    match state {
+        State::Idle => Answer::Tag(Word::Idle, answered),
+        State::Halt => Answer::Tag(Word::Halt, answered),
+        State::Ready1(w) => Answer::TagBack(Word::Ready1, wait_told(w), false, answered),
+        State::Ready2(w) => Answer::TagBack(Word::Ready2, wait_told(w), false, answered),
+        State::Active(w, a) => Answer::TagBack(Word::Active, wait_told(w), a, answered),
+    }
+}
+
+// How many places are gathered: from 64 data bytes on, every one.
+fn places_told(held: u8) -> u8
+    ensures { λ r. ⌜ r ≡ min held 64 ⌝ }
+{
+    if held < 64 { held } else { 64 }
+}
+
+// Where a bus stands. What a number that is no phase's counts as is the two wires' to say.
+pub fn bus_told(rec: BusRecord) -> Answer
+    ensures { λ r. ⌜ AnswerFits r ⌝ }
+    ensures { λ r. ⌜ ((buf img : List ℕ) → tells r buf img ≡ busTold rec) ⌝ }
+{
+    let phase = phase_of(rec.phase);
+    let counter = rec.counter;
+    let held = rec.held;
+    match phase {
+        Phase::Rest => Answer::Bus(Word::Rest, counter),
+        Phase::Device => Answer::Bus(Word::Device, counter),
+        Phase::High => Answer::Bus(Word::High, counter),
+        Phase::Low => Answer::BusLow(counter, held),
+        Phase::Writing => Answer::BusWriting(counter, places_told(held)),
+        Phase::Reading => Answer::Bus(Word::Reading, counter),
+        Phase::Deaf => Answer::Bus(Word::Deaf, counter),
+    }
 }

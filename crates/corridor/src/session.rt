@@ -1,10 +1,12 @@
 // The board that is played, and what each line does to it. Nothing here knows the tag's rules: every answer comes from the frame call, the
 // field loss and the bus event.
+use crate::calls::bus_told;
 use crate::calls::call_frame;
 use crate::calls::call_step;
 use crate::calls::event_number;
 use crate::calls::event_told;
 use crate::calls::frame_told;
+use crate::calls::tag_told;
 use crate::input::Line;
 use laying::put_front;
 use lines::read::Asked;
@@ -12,6 +14,7 @@ use lines::read::Sent;
 use lines::read::Verb;
 use lines::read::asked_of;
 use lines::read::is_skipped;
+use lines::read::unended;
 use lines::write::Answer;
 use lines::write::Kilobyte;
 use lines::write::Out;
@@ -22,11 +25,11 @@ use words::args::Verdict;
 ghost use mathlib.Core.Path.{_≡_};
 ghost use mathlib.Core.List.{List};
 ghost use Prim.Native.Nat.{ℕ, _≤_};
-ghost use lib.ListN.{take, getD};
+ghost use lib.ListN.{length, take, getD};
 ghost use Rattle.words.specs.Args.{saidBy};
 ghost use Rattle.lines.specs.Said.{AskedFits};
-ghost use Rattle.lines.specs.Told.{tells, AnswerFits};
-ghost use Rattle.corridor.specs.Played.{opening, obeyed, played, takes, lends, loses, hears, sees, answers};
+ghost use Rattle.lines.specs.Told.{Told, tells, AnswerFits};
+ghost use Rattle.corridor.specs.Played.{opening, obeyed, played, takes, lends, loses, hears, sees, answers, shows};
 ghost use Rattle.corridor.specs.Session.{boardOf, Within, Acts, Answers};
 ghost use Rattle.corridor.specs.Reading.{lineRoom};
 
@@ -161,9 +164,21 @@ fn see(image: &mut Kilobyte, session: Session, number: usize, byte: u8) -> Acted
 fn answered(session: Session, told: Answer) -> Acted
     requires { ⌜ Within session ⌝ }
     requires { ⌜ AnswerFits told ⌝ }
-    ensures { λ r. ⌜ ((img buf : List ℕ) → Acts (answers (boardOf session img) (tells told buf img)) r img buf) ⌝ }
+    ensures { λ r. ⌜ ((img buf : List ℕ) (t : Told) → tells told buf img ≡ t → Acts (answers (boardOf session img) t) r img buf) ⌝ }
 {
     Acted { session, told }
+}
+
+// What `show` is answered by: the image, or the page whose number it has.
+fn show_told(bytes: &[u8], end: usize, size: usize) -> Answer
+    requires { ⌜ (end ≤ length (now bytes)) × (size ≤ 1024) ⌝ }
+    ensures { λ r. ⌜ AnswerFits r ⌝ }
+    ensures { λ r. ⌜ ((buf img : List ℕ) → tells r buf img ≡ shows (take size img) (take end (now (bytes .entry)))) ⌝ }
+{
+    if end == 0 {
+        return Answer::Shown(size);
+    }
+    Answer::Page(bytes[0], size)
 }
 
 // Carries out a command that is written as it is to be. The bytes of a frame's answer are then at the start of `answer`.
@@ -194,8 +209,10 @@ fn obey(
         Verb::Send => see(image, session, 2, n as u8),
         Verb::Read => see(image, session, 3 + n, 0),
         Verb::Event => see(image, session, n, numbers[1] as u8),
-        Verb::Show => answered(session, Answer::Shown(session.size)),
+        Verb::Show => answered(session, show_told(bytes, end, session.size)),
         Verb::Help => answered(session, Answer::Help),
+        Verb::Tag => answered(session, tag_told(session.tag)),
+        Verb::Bus => answered(session, bus_told(session.bus)),
     }
 }
 
@@ -215,9 +232,9 @@ fn act(
     let verdict = given.verdict;
     match verdict {
         Verdict::Good => obey(image, answer, bytes, session, asked),
-        Verdict::Unknown => answered(session, Answer::Error),
-        Verdict::Wrong => answered(session, Answer::Error),
-        Verdict::Long => answered(session, Answer::Error),
+        Verdict::Unknown => answered(session, Answer::NoSuchCommand),
+        Verdict::Wrong => answered(session, Answer::NotSoWritten),
+        Verdict::Long => answered(session, Answer::TooLong),
     }
 }
 
@@ -235,10 +252,11 @@ pub fn respond(
     requires { ⌜ Within session ⌝ }
     ensures { λ r. ⌜ Answers (boardOf session (now (image .entry))) (take len (now (line .entry))) r (now (image .exit)) (now (out .exit)) ⌝ }
 {
-    if is_skipped(line, len) {
+    let end = unended(line, len);
+    if is_skipped(line, end) {
         return Responded { session, length: 0 };
     }
-    let asked = asked_of(line, len, bytes);
+    let asked = asked_of(line, end, bytes);
     let acted = act(image, answer, bytes, session, asked);
     let next = acted.session;
     let told = acted.told;

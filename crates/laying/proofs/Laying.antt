@@ -1,7 +1,7 @@
 -- Laws of laying parts into a buffer. Assumes nothing.
 use Prim.Native.Nat.{ℕ, zero, suc, _+_, _*_, _/_, _%_, _^_, _<_, _≤_, _-_}
 use mathlib.Core.Path.{_≡_, refl, ap, ap₂, sym, subst, _∙_}
-use mathlib.Core.Bool.{Bool, cond}
+use mathlib.Core.Bool.{Bool, true, false, cond}
 use mathlib.Core.List.{List, [], _∷_, _++_, append-assoc, append-nil}
 use native.Mathlib.Numerals.{add-one}
 use native.Mathlib.Omega.{arith}
@@ -10,7 +10,7 @@ use borrow.Rule.Slice.PartMut.{putMid}
 use lib.Seq.{take-suc, take-suc-set, take-length, take-at, length-take-le}
 use borrow.Author.Tests.{lt-ltb, le-ltb}
 use Rattle.io.specs.Digits.{digits, glyph, Fewest}
-use Rattle.laying.specs.Parts.{decimalIn, decimal, hexChar, hexOf, Part, word, number, hex, tail, partText, lineText, Laid, Line}
+use Rattle.laying.specs.Parts.{decimalIn, decimal, hexChar, hexOf, Part, word, flagged, number, four, hex, tail, partText, lineText, Laid, Line}
 
 pub char-low : (n : ℕ) → n < 10 → n + 48 ≡ hexChar n
 char-low n h = simp (lt-ltb n 10 h)
@@ -100,6 +100,13 @@ put-copied text out part at count h k e =
 
 pub put-whole : (text before after : List ℕ) (at r : ℕ) → Laid (word (take (length text) text)) at r before after → Laid (word text) at r before after
 put-whole text before after at r l = record { front = l .front ∙ ap (λ (x : List ℕ). take at before ++ x) (take-length text) }
+
+module _ (flag : Bool) (text before : List ℕ) (at : ℕ) where
+  pub flag-set : (after : List ℕ) (r : ℕ) → flag ≡ true → Laid (word text) at r before after → Laid (flagged flag text) at r before after
+  flag-set after r e l = record { front = rw e (l .front) }
+
+  pub flag-clear : flag ≡ false → Laid (flagged flag text) at at before before
+  flag-clear e = record { front = rw e (sym (append-nil (take at before))) }
 
 pub tail-none : (bytes before : List ℕ) (at n : ℕ) → n ≡ 0 → Laid (tail (take n bytes)) at at before before
 tail-none bytes before at n e = record { front = sym (append-nil (take at before)) ∙ ap (λ (k : ℕ). take at before ++ partText (tail (take k bytes))) (sym e) }

@@ -1,10 +1,11 @@
 -- An answer as a list of parts, and what laying them into a buffer does. Assumes nothing.
 use Prim.Native.Nat.{ℕ, zero, suc, _+_, _/_, _%_}
 use mathlib.Core.Path.{_≡_}
-use mathlib.Core.Bool.{cond}
+use mathlib.Core.Bool.{Bool, cond}
 use mathlib.Core.List.{List, [], _∷_, _++_}
 use lib.Dec.{ltb}
 use lib.ListN.{take}
+use Rattle.laying.specs.declared.Letters.{Letters}
 
 -- "Numbers are decimal": as few digits as it has, of at most `most`
 abbrev pub decimalIn : ℕ → ℕ → List ℕ
@@ -28,16 +29,28 @@ abbrev pub tailOf : List ℕ → List ℕ
 tailOf [] = []
 tailOf (b ∷ r) = 32 ∷ hexOf (b ∷ r)
 
--- fixed words; a number; bytes in hex; bytes in hex behind a space, or nothing
+-- "HHHH": a number of sixteen bits as four hex digits, its high byte first
+abbrev pub fourOf : ℕ → List ℕ
+fourOf n = hexOf (n / 256 ∷ n % 256 ∷ [])
+
+-- the letters of a word that stands in an array with their count
+abbrev pub lettersOf : Letters → List ℕ
+lettersOf w = take (w .0) (w .1)
+
+-- fixed words; fixed words where a flag is set, or nothing; a number; four hex digits; bytes in hex; bytes in hex behind a space, or nothing
 pub data Part : Type 0 where
   word : List ℕ → Part
+  flagged : Bool → List ℕ → Part
   number : ℕ → Part
+  four : ℕ → Part
   hex : List ℕ → Part
   tail : List ℕ → Part
 
 abbrev pub partText : Part → List ℕ
 partText (word l) = l
+partText (flagged b l) = cond b l []
 partText (number n) = decimal n
+partText (four n) = fourOf n
 partText (hex bs) = hexOf bs
 partText (tail bs) = tailOf bs
 

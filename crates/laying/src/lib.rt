@@ -5,7 +5,10 @@ ghost use mathlib.Core.Path.{_≡_};
 ghost use mathlib.Core.List.{_∷_, []};
 ghost use Prim.Native.Nat.{_+_, _*_, _/_, _%_, _≤_, _<_};
 ghost use lib.ListN.{length, take};
-ghost use Rattle.laying.specs.Parts.{hexChar, word as Parts·word, number as Parts·number, hex as Parts·hex, tail as Parts·tail, Laid, Line};
+ghost use Rattle.laying.specs.Parts.{hexChar, word as Parts·word, flagged as Parts·flagged, number as Parts·number, four as Parts·four, hex as Parts·hex, tail as Parts·tail, lettersOf, Laid, Line};
+
+// A word of at most seven letters: how many it has, and the letters.
+pub struct Letters(pub usize, pub [u8; 7]);
 
 // The first `count` bytes of a text.
 pub fn put_front(out: &mut [u8], at: usize, text: &[u8], count: usize) -> usize
@@ -25,6 +28,38 @@ pub fn put(out: &mut [u8], at: usize, text: &[u8]) -> usize
     ensures { λ r. ⌜ Laid (Parts·word (now (text .entry))) at r (now (out .entry)) (now (out .exit)) ⌝ }
 {
     put_front(out, at, text, text.len())
+}
+
+pub fn put_letters(out: &mut [u8], at: usize, word: Letters) -> usize
+    requires { ⌜ word .0 ≤ 7 ⌝ }
+    requires { ⌜ at + 7 ≤ length (now out) ⌝ }
+    ensures { λ r. ⌜ r ≤ at + 7 ⌝ }
+    ensures { λ r. ⌜ Laid (Parts·word (lettersOf word)) at r (now (out .entry)) (now (out .exit)) ⌝ }
+{
+    let letters = word.1;
+    put_seven(out, at, &letters, word.0)
+}
+
+// The array by its own type: its length is then known.
+fn put_seven(out: &mut [u8], at: usize, letters: &[u8; 7], count: usize) -> usize
+    requires { ⌜ count ≤ 7 ⌝ }
+    requires { ⌜ at + 7 ≤ length (now out) ⌝ }
+    ensures { λ r. ⌜ r ≤ at + 7 ⌝ }
+    ensures { λ r. ⌜ Laid (Parts·word (take count (now (letters .entry)))) at r (now (out .entry)) (now (out .exit)) ⌝ }
+{
+    put_front(out, at, letters, count)
+}
+
+// A text where a flag is set, or nothing.
+pub fn put_flagged(out: &mut [u8], at: usize, text: &[u8], flag: bool) -> usize
+    requires { ⌜ at + length (now text) ≤ length (now out) ⌝ }
+    ensures { λ r. ⌜ r ≤ at + length (now (text .entry)) ⌝ }
+    ensures { λ r. ⌜ Laid (Parts·flagged flag (now (text .entry))) at r (now (out .entry)) (now (out .exit)) ⌝ }
+{
+    if flag {
+        return put(out, at, text);
+    }
+    at
 }
 
 // The capital hex digit of a number below 16.
@@ -78,6 +113,16 @@ pub fn put_tail(out: &mut [u8], at: usize, bytes: &[u8], count: usize) -> usize
     }
     let a = put(out, at, b" ");
     put_hex(out, a, bytes, count)
+}
+
+// A number of sixteen bits as four hex digits.
+pub fn put_four(out: &mut [u8], at: usize, n: u16) -> usize
+    requires { ⌜ at + 4 ≤ length (now out) ⌝ }
+    ensures { λ r. ⌜ r ≡ at + 4 ⌝ }
+    ensures { λ r. ⌜ Laid (Parts·four n) at r (now (out .entry)) (now (out .exit)) ⌝ }
+{
+    let two = [(n / 256) as u8, (n % 256) as u8];
+    put_hex(out, at, &two, 2)
 }
 
 // A number, in decimal.

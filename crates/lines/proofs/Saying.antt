@@ -6,8 +6,8 @@ use mathlib.Core.List.{List}
 use native.Mathlib.Omega.{arith}
 use lib.Dec.{eqb}
 use lib.ListN.{length, take, drop, getD, length-take}
-use lib.Seq.{getD-take}
-use borrow.Author.Tests.{ne-eqb}
+use lib.Seq.{getD-take, take-take}
+use borrow.Author.Tests.{eq-eqb, ne-eqb}
 use Rattle.words.specs.Pack.{packedOf, readable}
 use Rattle.words.specs.Word.{wordEnd, firstOf}
 use Rattle.words.specs.Args.{Said, saidIn, kindsOf, roomFor, GivenFits}
@@ -15,7 +15,7 @@ use Rattle.words.specs.declared.args.Given.{Given}
 use Rattle.words.proofs.Arguing.{looked-up}
 use Rattle.words.proofs.Rows.{rowAt, Others, known-in, unknown-in, each-row, _and_}
 use Rattle.laying.proofs.Laying.{front}
-use Rattle.lines.specs.Said.{commands, noCommand, rowOf, verbOf, saidOf, isSkipped, Fits, AskedFits}
+use Rattle.lines.specs.Said.{commands, noCommand, rowOf, verbOf, saidOf, unended, isSkipped, Fits, AskedFits}
 use Rattle.lines.specs.declared.read.Verb.{Verb}
 use Rattle.lines.specs.declared.read.Row.{Row}
 
@@ -45,6 +45,8 @@ row-fits =
     and (λ g f. f .numbers .below 0)
     and (λ g f. f .numbers .below 0)
     and (λ g f. f .numbers .below 1)
+    and (λ g f. tt)
+    and (λ g f. tt)
     and (λ g f. tt)
     and (λ g f. tt)
     and (λ g f. tt)
@@ -81,6 +83,22 @@ said-front line n s e = e ∙ ap saidOf (front line n)
 module _ (line : List ℕ) (n : ℕ) (few : n ≤ length line) where
   front-length : length (take n line) ≡ n
   front-length = simp length-take (omega arith)
+
+  pub ends-empty : n ≡ 0 → take 0 line ≡ unended (take n line)
+  unfolding unended
+  ends-empty e = rw e
+
+  module _ (some : n ≡ 0 → ⊥) where
+    last-read : getD (take n line) (n - 1) 0 ≡ getD line (n - 1) 0
+    last-read = getD-take n line (n - 1) 0 (omega arith)
+
+    pub ends-dropped : getD line (n - 1) 0 ≡ 13 → take (n - 1) line ≡ unended (take n line)
+    unfolding unended
+    ends-dropped e = rw (front-length, eq-eqb (getD (take n line) (n - 1) 0) 13 (last-read ∙ e)) (sym (take-take (n - 1) n line (omega arith)))
+
+    pub ends-kept : (getD line (n - 1) 0 ≡ 13 → ⊥) → take n line ≡ unended (take n line)
+    unfolding unended
+    ends-kept h = rw (front-length, ne-eqb (getD (take n line) (n - 1) 0) 13 (λ e. h (sym last-read ∙ e)))
 
   pub skips-empty : n ≡ 0 → true ≡ isSkipped (take n line)
   unfolding isSkipped

@@ -1,5 +1,5 @@
 -- What a line says: the first column of the table of the lines. Assumes nothing.
-use Prim.Native.Nat.{ℕ, _≤_}
+use Prim.Native.Nat.{ℕ, _-_, _≤_}
 use mathlib.Core.Path.{_≡_}
 use mathlib.Core.Bool.{Bool, true, cond}
 use mathlib.Core.List.{List, [], _∷_}
@@ -43,6 +43,10 @@ ackNak = kind.Either (pack (text "ack")) (pack (text "nak"))
 abbrev pub imageHex : Kind
 imageHex = kind.Hex 1024
 
+-- "`show HH`": one byte
+abbrev pub pageHex : Kind
+pageHex = kind.Hex 1
+
 -- "HEX has at most 8,192 bytes"
 abbrev pub frameHex : Kind
 frameHex = kind.Hex 8192
@@ -61,8 +65,11 @@ commands =
     ∷ asks (text "send") (verb.Send, (1, byte, nothing, nothing))
     ∷ asks (text "read") (verb.Read, (1, ackNak, nothing, nothing))
     ∷ asks (text "event") (verb.Event, (2, numeral, byte, nothing))
-    ∷ asks (text "show") (verb.Show, (0, nothing, nothing, nothing))
+    -- `show` alone, and `show HH`
+    ∷ asks (text "show") (verb.Show, (0, pageHex, nothing, nothing))
     ∷ asks (text "help") (verb.Help, (0, nothing, nothing, nothing))
+    ∷ asks (text "tag") (verb.Tag, (0, nothing, nothing, nothing))
+    ∷ asks (text "bus") (verb.Bus, (0, nothing, nothing, nothing))
     ∷ []
 
 -- no command: it asks for four arguments, and its verb means nothing
@@ -73,6 +80,10 @@ unfoldable pub rowOf : List ℕ → Row
 rowOf w = rowIn noCommand commands w
 
 -- ---- a whole line
+
+-- "A carriage return at the end of a line is dropped": one, which is 13, before the line is judged
+unfoldable pub unended : List ℕ → List ℕ
+unended line = let last = length line - 1 in cond (eqb (getD line last 0) 13) (take last line) line
 
 abbrev pub verbOf : List ℕ → Verb
 verbOf line = rowOf (firstOf line) .0
@@ -100,6 +111,8 @@ Fits verb.Read g = getD (g .numbers) 0 0 ≤ 1
 Fits verb.Event g = getD (g .numbers) 1 0 ≤ 255
 Fits verb.Show g = Unit
 Fits verb.Help g = Unit
+Fits verb.Tag g = Unit
+Fits verb.Bus g = Unit
 
 -- the numbers that are there may be looked up among all three
 pub record AskedFits (r : Asked) : Type 0 where

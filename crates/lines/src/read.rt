@@ -9,7 +9,7 @@ ghost use mathlib.Core.Path.{_≡_};
 ghost use Prim.Native.Nat.{_≤_};
 ghost use lib.ListN.{length, take};
 ghost use Rattle.words.specs.Args.{kindsOf, roomFor, saidBy};
-ghost use Rattle.lines.specs.Said.{rowOf, verbOf, saidOf, isSkipped, AskedFits};
+ghost use Rattle.lines.specs.Said.{rowOf, verbOf, saidOf, unended, isSkipped, AskedFits};
 
 // Room for the bytes of an image or of a frame, from its start.
 pub type Sent = [u8; 8192];
@@ -30,6 +30,8 @@ pub enum Verb {
     Event,
     Show,
     Help,
+    Tag,
+    Bus,
 }
 
 // A command and its arguments.
@@ -66,6 +68,10 @@ const SHOW: u64 = 0x1_77_6f_68_73;
 
 const HELP: u64 = 0x1_70_6c_65_68;
 
+const TAG: u64 = 0x1_67_61_74;
+
+const BUS: u64 = 0x1_73_75_62;
+
 const ACK: u64 = 0x1_6b_63_61;
 
 const NAK: u64 = 0x1_6b_61_6e;
@@ -98,6 +104,8 @@ const ACK_NAK: Kind = Kind::Either(ACK, NAK);
 
 const IMAGE_HEX: Kind = Kind::Hex(1024);
 
+const PAGE_HEX: Kind = Kind::Hex(1);
+
 const FRAME_HEX: Kind = Kind::Hex(8192);
 
 // The row of a word. Where it is no command the shape says so, and the verb means nothing.
@@ -117,10 +125,27 @@ fn row_of(word: &[u8]) -> Row
         SEND => Row(Verb::Send, Shape(1, BYTE, NONE, NONE)),
         READ => Row(Verb::Read, Shape(1, ACK_NAK, NONE, NONE)),
         EVENT => Row(Verb::Event, Shape(2, NUMBER, BYTE, NONE)),
-        SHOW => Row(Verb::Show, Shape(0, NONE, NONE, NONE)),
+        SHOW => Row(Verb::Show, Shape(0, PAGE_HEX, NONE, NONE)),
         HELP => Row(Verb::Help, Shape(0, NONE, NONE, NONE)),
+        TAG => Row(Verb::Tag, Shape(0, NONE, NONE, NONE)),
+        BUS => Row(Verb::Bus, Shape(0, NONE, NONE, NONE)),
         _ => Row(Verb::Help, Shape(4, NONE, NONE, NONE)),
     }
+}
+
+// The length of the line that the first `len` bytes of `line` are, without a carriage return at its end.
+pub fn unended(line: &[u8], len: usize) -> usize
+    requires { ⌜ len ≤ length (now line) ⌝ }
+    ensures { λ r. ⌜ (r ≤ len) × (take r (now (line .entry)) ≡ unended (take len (now (line .entry)))) ⌝ }
+{
+    if len == 0 {
+        return 0;
+    }
+    let last = len - 1;
+    if line[last] == b'\r' {
+        return last;
+    }
+    len
 }
 
 // Whether the line that the first `len` bytes of `line` are is answered by nothing: an empty line, or a comment.

@@ -10,7 +10,9 @@ pub use answer::BusAnswer;
 pub use event::BusStep;
 pub use event::step;
 pub use record::BusRecord;
+pub use record::Phase;
 pub use record::bus_at_rest;
+pub use record::phase_of;
 ghost use Rattle.two_wire.specs.Event.{does, Did};
 
 // An event on the two wires. The pin driver lends its record, which is updated where the driver has it. Its name is the one that C links:

@@ -1,6 +1,6 @@
 -- `corridor::input::append` meets its contract. Assumes nothing.
 use borrow.Author.Needs.{needs}
-use Rattle.corridor.proofs.Shell.{append-all, append-cut}
+use Rattle.corridor.proofs.Cut.{append-all, append-cut}
 use Rattle.corridor.proofs.input.append.Statement.{statement}
 use Rattle.corridor.proofs.input.append.Tie as tie
 

@@ -9,6 +9,7 @@ respond-spec =
     tie.close
     (tie.spec
     (λ c κs. search needs)
+    (λ c κs. search needs)
     (λ c. search responded-nothing)
     (λ c κs. search needs)
     (λ c κs. search needs)

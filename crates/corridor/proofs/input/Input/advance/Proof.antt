@@ -1,6 +1,6 @@
 -- `corridor::input::Input::advance` meets its contract. Assumes nothing.
 use borrow.Author.Needs.{needs}
-use Rattle.corridor.proofs.Shell.{refilled-line}
+use Rattle.corridor.proofs.Cut.{refilled-line}
 use Rattle.corridor.proofs.input.Input.advance.Statement.{statement}
 use Rattle.corridor.proofs.input.Input.advance.Tie as tie
 

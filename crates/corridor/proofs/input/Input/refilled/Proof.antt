@@ -1,5 +1,5 @@
 -- `corridor::input::Input::refilled` meets its contract. Assumes nothing.
-use Rattle.corridor.proofs.Shell.{refilled-by}
+use Rattle.corridor.proofs.Cut.{refilled-by}
 use Rattle.corridor.proofs.input.Input.refilled.Statement.{statement}
 use Rattle.corridor.proofs.input.Input.refilled.Tie as tie
 
