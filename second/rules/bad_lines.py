@@ -18,6 +18,8 @@ RULES = {
            "`error: no such command` where the first word is none of the commands ({})"),
     **each("error.no-such-command", ["empty-word", "capital", "tab"],
            "an empty word, a capital, a tab in it among them ({})"),
+    **each("error.no-such-command.before", ["extra-space", "odd-byte", "too-many-words"],
+           "where the first word is none of the commands, whatever follows it ({})"),
     **each("error.not-how.of", [word.decode("ascii") for word in ARGUMENTS],
            "`error: not how this command is written` where what follows it is wrong ({})"),
     **each("error.at-16397", ["no-such-command", "not-how"],
@@ -57,6 +59,7 @@ def met(step):
         return
     if step.error == "no-such-command":
         yield f"error.no-such-command/{why_unknown(word)}"
+        yield from also_wrong(rest)
     else:
         yield f"error.not-how.of/{word.decode('ascii')}"
         yield f"error.not-how/{why_not_how(word, rest)}"
@@ -112,6 +115,16 @@ def why_unknown(word):
         return "part-of-a-command"
     longer = any(word.startswith(command) for command in ARGUMENTS)
     return "longer-than-a-command" if longer else "unknown-word"
+
+
+def also_wrong(rest):
+    """What would be wrong behind any command word."""
+    if b"" in rest:
+        yield "error.no-such-command.before/extra-space"
+    if odd_byte_in(rest):
+        yield "error.no-such-command.before/odd-byte"
+    if len(rest) > 2:
+        yield "error.no-such-command.before/too-many-words"
 
 
 def why_not_how(word, rest):

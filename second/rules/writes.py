@@ -15,6 +15,8 @@ RULES = {
            "under password when its number is at least AUTH0 and the tag isn't authenticated: it is ({})"),
     **each("write.ack-despite-settings-lock", ["lock-page", "pwd", "pack"],
            "a settings page with the settings lock set: this is none ({})"),
+    **each("write.under-password", ["PROT-set", "PROT-clear"],
+           "under password when its number is at least AUTH0 and the tag isn't authenticated: PROT is no matter ({})"),
     "write.edge/at-AUTH0": "under password when its number is at least AUTH0: it is AUTH0",
     "write.edge/below-AUTH0": "under password when its number is at least AUTH0: it is one less",
     "page3/gains": "page 3 gains the set bits",
@@ -44,6 +46,7 @@ def of_nak(step, page):
         if page == image.auth0():
             yield "write.edge/at-AUTH0"
         yield f"write.under-password/{kind}"
+        yield "write.under-password/" + ("PROT-set" if image.prot() else "PROT-clear")
     elif page in image.layout.settings:
         yield f"write.settings-lock/{kind}"
     else:

@@ -12,7 +12,7 @@ BAD_LINE_OF_EACH_KIND = [
     b"send 5", b"send 5g", b"event +1 00", b"event 1", b"stop 00", b"read Ack", b"send A0A1",
     b"event 65536 00", b"event 65537 00", b"event 000001 00", b"buffer 1025", b"buffer 65535",
     b"image " + b"5A" * 1025, b"image " + b"5A" * 1026,
-    b"frame 512 " + b"00" * 8193, b"frame 7 " + b"00" * 8194, LONGEST + b"0", LONGEST + b"A5"]
+    b"frame 512 " + b"00" * 8193, b"frame 7 " + b"00" * 8194, LONGEST + b"0"]
 
 # Lines that do nothing to the tag, though they are good.
 IDLE_LINES = [b"", b"#", b"# \t\r\0 \xff odd bytes", b"#" + b" long" * 3280, b"help", b"show", b"show 04",
@@ -37,7 +37,13 @@ BAD_LINES = [
     b"buffer 1025", b"buffer 65535", b"buffer 1026", b"buffer 01025", b"show 001", b"show 0001", b"show 100",
     b"show 0G", b"show -1", b"show all", b"show 00 01", b"show  00", b"show 00 ", b"show00", b"tag 1", b"tag ",
     b"Tag", b"tags", b"ta", b"tag bus", b"bus 4000", b"bus ", b"BUS", b"buss", b"bu", b"help tag", b"error",
-    b"page 00", b"idle", b"nak", b"read"]
+    b"page 00", b"idle", b"nak", b"read", b"hello ", b"hello  there", b"STOP 00 ", b"Send A", b"x\t",
+    b"stop\t 00", b"\xff 00", b"stops \0", b"hello 1 2 3"]
+
+# One for each command, with a fault behind the command word.
+WRONG_BEHIND_THE_WORD = [
+    b"image 0", b"buffer 1025", b"field 1", b"frame 7 5G", b"parity 65536", b"start ", b"stop 00",
+    b"send A", b"read Ack", b"event 1", b"show 0", b"tag idle", b"bus rest", b"help me"]
 
 GOOD_LINES = [
     b"help", b"", b"#", b"# a comment", b"#show", b"# \t\r\0 \xff odd bytes", b"buffer 1024",
@@ -62,6 +68,18 @@ def every_odd_line(s):
     for line in s.dice.shuffled(BAD_LINES + GOOD_LINES):
         s.say(line)
         s.ask()
+
+
+def wrong_behind_the_word(s):
+    """Each command with a fault behind its word, in HALT, in ACTIVE, and in IDLE
+    before a READ: nothing changes."""
+    s.image(45)
+    for way in (lambda: s.reach("HALT"), s.authenticate, lambda: s.say("field")):
+        way()
+        s.to_phase(s.dice.one_of(["low", "read", "deaf"]))
+        for line in WRONG_BEHIND_THE_WORD:
+            s.say(line)
+            s.ask()
 
 
 def changes_nothing(s, line):
@@ -159,13 +177,16 @@ def long_lines(s):
     s.look_at_radio()
     s.say(LONGEST)
     s.look_at_radio()
-    s.say(LONGEST + b"A5" * dice.between(2, 400))
-    s.say("show" + " " * dice.between(16395, 17000))
+    s.authenticate()
+    for line in (LONGEST + b"A5" * dice.between(1, 400), b"show" + b" " * dice.between(16395, 17000)):
+        s.say(line)
+        s.ask()
     s.say("frame 7 52")
 
 
 def stored(s):
     every_odd_line(s)
+    wrong_behind_the_word(s)
     spoiled_lines(s, 150)
     image_limits(s)
     long_lines(s)
@@ -173,4 +194,5 @@ def stored(s):
     new_images(s)
 
 
+OF_ANY_KIND = [wrong_behind_the_word]
 RARE = [every_odd_line, any_spoiled_lines, image_limits, long_lines, new_images]

@@ -7,8 +7,11 @@ COUNTS_ASKED = [0, 1, 2, 3, 9, 10, 62, 63, 64, 65, 66, 127, 128, 129, 255, 256, 
 
 def every_tag_record(s):
     """`tag` in each state, with each wait state, authenticated or not, before and
-    after the field's first READ. Asked twice: the question changes nothing."""
+    after the field's first READ, in the middle of a write. Asked twice: the
+    question changes nothing."""
     s.image(45)
+    s.address(0x4020)
+    s.send(0x5A, 0xA5)
     for read_answered in (False, True):
         s.say("field")
         s.reads_on_entry = read_answered
@@ -45,7 +48,8 @@ def tag_after_each_step(s):
 
 def every_bus_record(s, size):
     """`bus` in each phase, with the counter at each end of the window, inside and
-    past it; in a write it is where the address sent is."""
+    past it; in a write it is where the address sent is. The radio waits, or is
+    in ACTIVE and authenticated: the question changes nothing there either."""
     s.image(size)
     end = s.layout.window_end
     for place, amount in [(0x4000, 0), (s.dice.between(0x4010, 0x4090), 3), (end - 1, 0), (end - 1, 1),
@@ -55,24 +59,31 @@ def every_bus_record(s, size):
             s.send(*s.dice.bytes(amount))
             s.stop()
             s.to_phase(phase)
+            s.reach("HALT")
+            s.ask_twice()
+            s.authenticate()
             s.ask_twice()
 
 
 def high_bytes(s):
     """The high address byte that is held, whatever it is; a read in between keeps it."""
     s.image(45)
-    for high in (0x00, 0x01, 0x0F, 0x10, 0x3F, 0x40, 0x41, 0x9F, 0xA0, 0xFA, 0xFF):
-        s.start()
-        s.send(0xA0, high)
-        s.ask_twice()
-        s.event(3)
-        s.ask()
+    for way in (s.authenticate, lambda: s.reach("HALT")):
+        way()
+        for high in (0x00, 0x01, 0x0F, 0x10, 0x3F, 0x40, 0x41, 0x9F, 0xA0, 0xFA, 0xFF):
+            s.start()
+            s.send(0xA0, high)
+            s.ask_twice()
+            s.event(3)
+            s.ask()
 
 
 def counts_of_places(s, place, most):
     """`bus` while more and more bytes are gathered: it counts places, so that it
     ends at 64, wherever in its page the write began and whatever is stored of it."""
     s.image(45)
+    s.reach("ACTIVE", "HALT")
+    s.authenticate()
     s.address(place)
     for amount in range(most + 1):
         if amount in COUNTS_ASKED:

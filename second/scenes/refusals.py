@@ -18,12 +18,14 @@ def refused_by_image(s):
         s.say(f"buffer {dice.one_of([0, 1, 1023, 1024])}")
         s.raw_image(dice.bytes(length))
         s.frame(WUPA)
+        s.ask()
         s.say(dice.one_of(["frame 0", "frame 7 A6", "parity 8"]))
         s.ask()
         for event in dice.some(3, range(5)):
             s.event(event, 0xA0)
             s.ask()
         s.say(f"event {dice.between(5, 65535)} 00")
+        s.ask()
         s.say("field")
         s.ask()
 

@@ -48,14 +48,14 @@ def skipped_lines(s):
 
 def wrong_lines(s):
     """A second carriage return, one that stands elsewhere, and wrong lines that end
-    with one: each is an error, and nothing changes, in the middle of things."""
+    with one: each is an error, and nothing changes, in the middle of things and
+    while nothing is going on."""
     s.image(45)
-    for lines in (WRONG, WRONG_BEFORE_IT):
-        s.reach("ACTIVE", "HALT")
-        s.authenticate()
-        s.address(0x4020)
+    for way, phase in ((s.authenticate, "write"), (lambda: s.reach("HALT"), "deaf")):
+        way()
+        s.to_phase(phase)
         s.send(*s.dice.bytes(2))
-        for line in lines:
+        for line in WRONG + WRONG_BEFORE_IT:
             s.say(line)
             s.ask()
         s.look_at_radio()

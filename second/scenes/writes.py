@@ -51,9 +51,22 @@ def page_3(s):
     s.obey(0xA2, 3, 0, 0, 0, 0)
 
 
+def writes_without_prot(s):
+    """PROT clear: READ is open, but WRITE is under password from AUTH0 on."""
+    s.image(45, auth0=8, access=access_byte(counter_on=1))
+    for authenticated in (False, True):
+        for page in (7, 8, 9, 44):
+            s.active(authenticated)
+            s.command(0xA2, page, *s.dice.four())
+            s.active(authenticated)
+            s.command(0x30, page)
+            s.say(f"show {page:02X}")
+
+
 def stored(s):
     page_3(s)
     page_3(s)
+    writes_without_prot(s)
 
 
 def stored_of_size(s, size):
@@ -62,4 +75,4 @@ def stored_of_size(s, size):
         writes(s, size, auth0, settings_lock=1)
 
 
-OF_ANY_KIND = [any_writes, any_writes, page_3]
+OF_ANY_KIND = [any_writes, any_writes, page_3, writes_without_prot]

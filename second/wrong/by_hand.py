@@ -5,6 +5,9 @@ and what once went unnoticed. Each gives the module, the text that is right, and
 the text that takes its place.
 """
 
+DROPPED = "return line[:-1] if line.endswith(b\"\\r\") else line"
+PAGE_SHOWN = "image[4 * page:4 * page + 4]"
+PLACES = "len({bus.place_of(number) for number in range(len(bus.gathered))})"
 SELECT = "bits == with_crc([code, 0x70] + five)"
 
 BY_HAND = {
@@ -68,6 +71,65 @@ BY_HAND = {
     "an `image` line sets the buffer's length back": (
         "lines.player", "self.tag.take_image(data)\n",
         "self.tag.take_image(data)\n        self.buffer_length = 1024\n"),
+    "all carriage returns at the end of a line are dropped": (
+        "lines.reading", DROPPED, "return line.rstrip(b'\\r')"),
+    "carriage returns are dropped anywhere": (
+        "lines.reading", DROPPED, "return line.replace(b'\\r', b'')"),
+    "white space at the end of a line is dropped": (
+        "lines.reading", DROPPED, "return line.rstrip()"),
+    "an empty line with a carriage return is an error": (
+        "lines.player", "if is_skipped(text):", "if is_skipped(line):"),
+    "the carriage return counts for a line's length": (
+        "lines.player", "command_of(text)", "command_of(text if len(line) <= 16397 else line)"),
+    "a comment that is too long is an error": (
+        "lines.reading", 'text.startswith(b"#")', 'text.startswith(b"#") and len(text) <= LONGEST_LINE'),
+    "an unknown word goes before a line that is too long": (
+        "lines.reading", "if len(text) > LONGEST_LINE:",
+        "if len(text) > LONGEST_LINE and text.split(b' ')[0] in ARGUMENTS:"),
+    "a fault behind the word goes before a line that is too long": (
+        "lines.reading", "if len(text) > LONGEST_LINE:",
+        "if len(text) > LONGEST_LINE and b'' not in text.split(b' ')[1:]:"),
+    "a space too many goes before an unknown word": (
+        "lines.reading", "    if word not in ARGUMENTS:",
+        "    if b'' in rest:\n        raise BadLine(NOT_HOW)\n    if word not in ARGUMENTS:"),
+    "an odd byte goes before an unknown word": (
+        "lines.reading", "    if word not in ARGUMENTS:",
+        "    if any(byte < 32 or byte > 126 for byte in text):\n        raise BadLine(NOT_HOW)\n"
+        "    if word not in ARGUMENTS:"),
+    "an empty first word is not how a command is written": (
+        "lines.reading", "    if word not in ARGUMENTS:",
+        "    if word == b'':\n        raise BadLine(NOT_HOW)\n    if word not in ARGUMENTS:"),
+    "a capital in a command word is not how it is written": (
+        "lines.reading", "raise BadLine(NO_SUCH_COMMAND)",
+        "raise BadLine(NOT_HOW if word.lower() in ARGUMENTS else NO_SUCH_COMMAND)"),
+    "`show HH` hides PWD and PACK": (
+        "lines.player", PAGE_SHOWN,
+        "self.tag.image.layout and self.tag.image.shown(page) if page < len(self.tag.image.pages) else "
+        + PAGE_SHOWN),
+    "`show HH` leaves out the tail": (
+        "lines.player", PAGE_SHOWN, PAGE_SHOWN + " if page < len(self.tag.image.pages) else []"),
+    "`show HH` counts bytes in eight bits": (
+        "lines.player", PAGE_SHOWN, "image[4 * page % 256:4 * page % 256 + 4]"),
+    "`show HH` fills up a page with zeros": (
+        "lines.player", PAGE_SHOWN, "(image + [0] * (-len(image) % 4))[4 * page:4 * page + 4]"),
+    "`show HH` leaves out a page that isn't whole": (
+        "lines.player", PAGE_SHOWN, PAGE_SHOWN + " if 4 * page + 4 <= len(image) else []"),
+    "`bus` counts bytes and not places": ("lines.records", PLACES, "len(bus.gathered)"),
+    "`bus` counts bytes in eight bits": ("lines.records", PLACES, "min(len(bus.gathered) % 256, 64)"),
+    "`bus` counts places modulo 64": ("lines.records", PLACES, "len(bus.gathered) % 64"),
+    "`bus` counts the places that are stored": (
+        "lines.records", PLACES, "len({place for place in map(bus.place_of, range(len(bus.gathered)))"
+        " if place >= 0x400A and bus.in_window(place)})"),
+    "`bus` tells a counter past the window as 4000h": (
+        "lines.records", 'f"{bus.counter:04X}"',
+        'f"{bus.counter if bus.image.layout and bus.in_window(bus.counter) else 0x4000:04X}"'),
+    "`bus` tells the next place of a write": (
+        "lines.records", 'f"{bus.counter:04X}"', 'f"{bus.place_of(len(bus.gathered)):04X}"'),
+    "`tag` tells ` answered` only of a tag that is awake": (
+        "lines.records", "if radio.read_answered:",
+        'if radio.read_answered and radio.state not in ("IDLE", "HALT"):'),
+    "`tag` tells ` answered` only where it counted": (
+        "lines.records", "if radio.read_answered:", "if radio.read_answered and radio.image.counter_on():"),
 }
 
 

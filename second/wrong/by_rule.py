@@ -28,15 +28,12 @@ class SkippedStep:
 def twists_of(step, key):
     """The twists that are sensible for a step and a rule: those of its side.
 
-    An image of another length answers to nothing, so nothing of the tag's
-    records can be seen of it. Where the rule is one of how lines are written,
-    the line can only be left out as a whole.
+    Where the rule is one of how lines are written, the line can only be left
+    out as a whole.
     """
-    if step.after.tag.image.layout is None:
-        return LINES
     on_radio = step.word in ("frame", "parity")
     on_bus = step.word in ("start", "stop", "send", "read", "event")
-    if key.startswith(("form.", "limit/")) or key in LINE_RULES and (on_radio or on_bus):
+    if key.startswith(("form.", "limit/", "return.at-end/")) or key in LINE_RULES and (on_radio or on_bus):
         return READING
     if key in BOTH_SIDES or not (on_radio or on_bus):
         return RECORDS
@@ -45,10 +42,10 @@ def twists_of(step, key):
 
 def another_answer(answer):
     """An answer that looks like one, but isn't this."""
-    if answer is None:
-        return b"error"
-    if answer == b"error":
-        return None
+    if answer is None or answer.startswith(b"error: line"):
+        return b"error: no such command"
+    if answer.startswith(b"error"):
+        return b"error: line too long"
     if answer in (b"ack", b"nak"):
         return b"nak" if answer == b"ack" else b"ack"
     if answer == b"silence":

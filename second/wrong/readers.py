@@ -91,6 +91,12 @@ def long_line_cut(text):
     return [line[:LONGEST_LINE] for line in lines_of(text)]
 
 
+def long_line_cut_with_return(text):
+    """A line that is too long is cut behind the place of a carriage return, and
+    what is left is taken."""
+    return [line[:LONGEST_LINE + 1] for line in lines_of(text)]
+
+
 def long_line_in_parts(text):
     """What a line has beyond the longest is taken for the next line."""
     for line in lines_of(text):
@@ -108,6 +114,28 @@ def long_comment_refused(text):
 def turns_end(text):
     """After so many lines the program ends."""
     return lines_of(text)[:MOST_TURNS]
+
+
+def return_stays_at_the_end(text):
+    """A carriage return is dropped before a newline, and not before the end."""
+    return lines_of(text + b"\r" if text.endswith(b"\r") else text)
+
+
+def return_stays_in_another_read(text):
+    """A carriage return is dropped only if the same read brought its newline."""
+    for line, start in lines_and_starts(text):
+        apart = line.endswith(b"\r") and (start + len(line)) % CHUNK == 0
+        yield line + b"\r" if apart else line
+
+
+def return_lost_at_the_end_of_a_read(text):
+    """A carriage return at the end of a read is dropped, wherever in its line."""
+    return lines_of(b"".join(chunk.removesuffix(b"\r") for chunk in chunks_of(text)))
+
+
+def return_ends_a_line(text):
+    """A carriage return ends a line, as a newline does."""
+    return lines_of(text.replace(b"\r", b"\n"))
 
 
 def empty_line_ends(text):
@@ -128,10 +156,15 @@ READERS = {
     "a newline at the start of a read is lost": newline_lost(0),
     "a last line without its newline is lost": last_line_lost,
     "a line that is too long is cut and taken": long_line_cut,
+    "a line that is too long is cut behind a carriage return and taken": long_line_cut_with_return,
     "the rest of a line that is too long is taken": long_line_in_parts,
     "a long comment is refused": long_comment_refused,
     "the program ends after 65,536 lines": turns_end,
     "an empty line ends the program": empty_line_ends,
+    "a carriage return before the end of the input stays": return_stays_at_the_end,
+    "a carriage return in another read than its newline stays": return_stays_in_another_read,
+    "a carriage return at the end of a read is dropped": return_lost_at_the_end_of_a_read,
+    "a carriage return ends a line": return_ends_a_line,
 }
 
 

@@ -99,17 +99,11 @@ def failures_forgotten(step, before, after):
 
 # ---- The two wires
 
-def phase_left(step, before, after):
-    """The phase is left as it was; rest and deaf are not told apart by any event."""
-    if before.phase == after.phase or {before.phase, after.phase} == set(NOT_LISTENING):
-        return None
-    return after._replace(phase=before.phase)
-
-
-def becomes_deaf(step, before, after):
-    if after.phase in NOT_LISTENING:
-        return None
-    return after._replace(phase="deaf", gathered=())
+def becomes(phase):
+    """Becomes deaf or comes to rest, where the tag should be otherwise."""
+    def twist(step, before, after):
+        return after._replace(phase=phase, gathered=()) if after.phase != phase else None
+    return twist
 
 
 def goes_on_in(phase):
@@ -120,18 +114,15 @@ def goes_on_in(phase):
 
 
 def counter_moves_on(step, before, after):
-    """The address counter goes to the next place, last to first."""
+    """The address counter goes to the next place."""
     if after.counter != before.counter:
         return None
-    end = WINDOW_START + 4 * len(after.pages)
-    here = after.counter if WINDOW_START <= after.counter < end else WINDOW_START
-    return after._replace(counter=here + 1 if here + 1 < end else WINDOW_START)
+    return after._replace(counter=after.counter + 1)
 
 
 def counter_goes_back(step, before, after):
-    """The address counter goes to 4000h; a counter outside counts as that."""
-    end = WINDOW_START + 4 * len(after.pages)
-    if after.counter != before.counter or not WINDOW_START < after.counter < end:
+    """The address counter goes to 4000h."""
+    if after.counter != before.counter or after.counter == WINDOW_START:
         return None
     return after._replace(counter=WINDOW_START)
 
@@ -205,8 +196,9 @@ RADIO = {
 }
 
 BUS = {
-    "phase left": phase_left,
-    "becomes deaf": becomes_deaf,
+    "phase left": left("phase"),
+    "becomes deaf": becomes("deaf"),
+    "comes to rest": becomes("rest"),
     "expects a device byte": goes_on_in("device"),
     "goes on reading": goes_on_in("read"),
     "goes on writing": goes_on_in("write"),
