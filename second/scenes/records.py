@@ -95,8 +95,8 @@ def counts_of_places(s, place, most):
 
 
 def any_counts(s):
-    s.image(45)
-    counts_of_places(s, s.any_place(), s.dice.between(3, 140))
+    most = s.dice.one_of([s.dice.between(3, 80), s.dice.between(60, 300)])
+    counts_of_places(s, 0x4000 + s.dice.below(0xB4), most)
 
 
 def bus_after_each_step(s, size):

@@ -104,8 +104,8 @@ BY_HAND = {
         "raise BadLine(NOT_HOW if word.lower() in ARGUMENTS else NO_SUCH_COMMAND)"),
     "`show HH` hides PWD and PACK": (
         "lines.player", PAGE_SHOWN,
-        "self.tag.image.layout and self.tag.image.shown(page) if page < len(self.tag.image.pages) else "
-        + PAGE_SHOWN),
+        PAGE_SHOWN + " if not self.tag.image.layout or page >= self.tag.image.layout.size"
+        " else self.tag.image.shown(page)"),
     "`show HH` leaves out the tail": (
         "lines.player", PAGE_SHOWN, PAGE_SHOWN + " if page < len(self.tag.image.pages) else []"),
     "`show HH` counts bytes in eight bits": (
