@@ -1,5 +1,5 @@
--- What no run of lines can reach, as one table of equations: records that no call hands out, and the edge of the answer buffer. Assumes
--- nothing.
+-- Records that no call hands out, so that no run of lines can reach them, as one table of equations; and the edge of the answer buffer, where
+-- the definition has its number from a name. Assumes nothing.
 use mathlib.Core.Path.{_≡_}
 use mathlib.Core.List.{List, [], _∷_}
 use mathlib.Core.Bool.{Bool, true, false}
