@@ -48,8 +48,8 @@ module _ (k k′ : Kind) (e : k ≡ k′) where
   pub kind-room : (at n : ℕ) → at + roomOf k ≤ n → at + roomOf k′ ≤ n
   kind-room at n h = subst (λ (y : Kind). at + roomOf y ≤ n) e h
 
-pub hex-room : (k : Kind) (m at n : ℕ) → k ≡ kind.Hex m → at + roomOf k ≤ n → at + m ≤ n
-hex-room k m at n e h = kind-room k (kind.Hex m) e at n h
+  pub bytes-room : (at n m : ℕ) → m ≡ roomOf k′ → at + roomOf k ≤ n → at + m ≤ n
+  bytes-room at n m z h = omega (arith, kind-room at n h)
 
 -- an argument that has no bytes
 module _ (k k′ : Kind) (e : k ≡ k′) (r : Arg) (at : ℕ) where

@@ -9,10 +9,12 @@ use native.Mathlib.Omega.{arith}
 use lib.Dec.{ltb, leb}
 use lib.ListN.{length, take, drop, set, getD, drop-of-length-le}
 use lib.Seq.{take-suc-set, take-length, drop-cons}
-use borrow.Author.Tests.{lt-ltb, le-ltb, lt-leb, le-leb, ltb-true}
+use borrow.Author.Tests.{lt-ltb, le-ltb, lt-leb, le-leb, ltb-true, eq-eqb, ne-eqb}
 use Rattle.basics.proofs.Choice.{by}
 use Rattle.bytes.specs.Bytes.{indexOf, slice}
-use Rattle.words.specs.Word.{wordEnd, digitOf, withDigit, valueFrom, numberIn, hexPair, allPairs, pairsOf, none, value, bytesIn, behind, endsAt}
+use Rattle.words.specs.Word.{wordEnd, digitOf, withDigit, valueFrom, numberIn, hexPair, allPairs, pairsOf, Value, none, value, bytesIn, behind, endsAt}
+use Rattle.words.specs.Pack.{packedOf}
+use Rattle.words.specs.Args.{dashedIn}
 use Rattle.words.specs.declared.word.Arg.the-variants as arg
 
 module _ (b : ℕ) where
@@ -203,3 +205,13 @@ module _ (w front : List ℕ) (most : ℕ) where
       let p : take (at + length w / 2) xs ≡ front ++ pairsOf w =
       ap (λ (k : ℕ). take (at + k) xs) (sym c) ∙ sym (append-nil (take (at + i) xs)) ∙ ap (λ (l : List ℕ). take (at + i) xs ++ pairsOf l) (sym d) ∙ e in
       rw (a, s, f) (ap₂ value (sym (pairs-length w)) p)
+
+-- bytes, or `-` for none
+module _ (w front : List ℕ) (most k : ℕ) (number : k ≡ packedOf w) where
+  pub dash-none : k ≡ 301 → value 0 front ≡ behind front (dashedIn most w)
+  unfolding dashedIn
+  dash-none e = rw (← number, eq-eqb k 301 e) (ap (value 0) (sym (append-nil front)))
+
+  pub dash-bytes : (v : Value) → (k ≡ 301 → ⊥) → v ≡ behind front (bytesIn most w) → v ≡ behind front (dashedIn most w)
+  unfolding dashedIn
+  dash-bytes v n h = rw (← number, ne-eqb k 301 n) h

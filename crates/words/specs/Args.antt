@@ -5,7 +5,8 @@ use mathlib.Core.Bool.{Bool, cond}
 use mathlib.Core.List.{List, [], _∷_, _++_}
 use lib.Dec.{ltb, eqb}
 use lib.ListN.{length, take, getD}
-use Rattle.words.specs.Pack.{packedOf}
+use Rattle.words.specs.Text.{text}
+use Rattle.words.specs.Pack.{pack, packedOf}
 use Rattle.words.specs.Word.{firstOf, restOf, goesOn, Value, none, value, numberIn, bytesIn}
 use Rattle.words.specs.declared.args.Kind.{Kind}
 use Rattle.words.specs.declared.args.Kind.the-variants as kind
@@ -20,12 +21,17 @@ use Rattle.words.specs.declared.args.Given.{Given}
 unfoldable pub eitherOf : ℕ → ℕ → List ℕ → Value
 eitherOf one other w = cond (eqb (packedOf w) one) (value 0 []) (cond (eqb (packedOf w) other) (value 1 []) none)
 
+-- "bytes in pairs of hex digits, or `-` for none"
+unfoldable pub dashedIn : ℕ → List ℕ → Value
+dashedIn most w = cond (eqb (packedOf w) (pack (text "-"))) (value 0 []) (bytesIn most w)
+
 -- what a word is as an argument of a kind
 unfoldable pub valueOf : Kind → List ℕ → Value
 valueOf kind.Nothing w = none
 valueOf (kind.Number base least digits most) w = numberIn base least digits most w
 valueOf (kind.Either one other) w = eitherOf one other w
 valueOf (kind.Hex most) w = bytesIn most w
+valueOf (kind.Dashed most) w = dashedIn most w
 
 -- ---- all arguments: their numbers, and their bytes one behind the other
 
@@ -86,12 +92,14 @@ mostOf kind.Nothing = 0
 mostOf (kind.Number base least digits most) = most
 mostOf (kind.Either one other) = 1
 mostOf (kind.Hex most) = most
+mostOf (kind.Dashed most) = most
 
 abbrev pub roomOf : Kind → ℕ
 roomOf kind.Nothing = 0
 roomOf (kind.Number base least digits most) = 0
 roomOf (kind.Either one other) = 0
 roomOf (kind.Hex most) = most
+roomOf (kind.Dashed most) = most
 
 abbrev pub roomFor : List Kind → ℕ
 roomFor [] = 0

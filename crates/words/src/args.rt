@@ -9,10 +9,10 @@ ghost use mathlib.Core.List.{_∷_, []};
 ghost use Prim.Native.Nat.{_+_, _-_, _≤_, _<_};
 ghost use lib.ListN.{length, take, drop};
 ghost use Rattle.words.specs.Word.{behind, endsAt, reads, ArgFits};
-ghost use Rattle.words.specs.Args.{eitherOf, valueOf, mostOf, roomOf, roomFor, kindsOf, kindAt, argued, saidIn, saidBy, GivenFits};
+ghost use Rattle.words.specs.Args.{eitherOf, dashedIn, valueOf, mostOf, roomOf, roomFor, kindsOf, kindAt, argued, saidIn, saidBy, GivenFits};
 
 // What an argument is: a number of `least` to `digits` digits, at most `most`; one of two words by their packed numbers, the first as 0 and
-// the second as 1; bytes, at most so many.
+// the second as 1; bytes, at most so many; bytes, or `-` for none.
 pub enum Kind {
     Nothing,
     Number {
@@ -23,7 +23,11 @@ pub enum Kind {
     },
     Either(u64, u64),
     Hex(u32),
+    Dashed(u32),
 }
+
+// `-` as a number.
+const DASH: u64 = 0x1_2d;
 
 // The arguments of a command: how many of them must be there, and what each is. No line has more than three, so that a shape that asks for
 // four is that of no command.
@@ -72,6 +76,19 @@ fn either_in(word: &[u8], one: u64, other: u64, at: usize) -> Arg
     Arg::None
 }
 
+// Bytes, at most `most`, laid at `at`, or `-` for none.
+fn dashed_in(word: &[u8], bytes: &mut [u8], at: usize, most: u32) -> Arg
+    requires { ⌜ at + most ≤ length (now bytes) ⌝ }
+    ensures { λ r. ⌜ ArgFits most (at + most) r ⌝ }
+    ensures { λ r. ⌜ reads r (now (bytes .exit)) ≡ behind (take at (now (bytes .entry))) (dashedIn most (now (word .entry))) ⌝ }
+{
+    let k = packed(word);
+    if k == DASH {
+        return Arg::Of(0, at);
+    }
+    bytes_in(word, bytes, at, most)
+}
+
 // The argument that a word is. Its bytes are laid at `at`.
 fn arg_of(kind: Kind, word: &[u8], bytes: &mut [u8], at: usize) -> Arg
     requires { ⌜ at + roomOf kind ≤ length (now bytes) ⌝ }
@@ -88,6 +105,7 @@ fn arg_of(kind: Kind, word: &[u8], bytes: &mut [u8], at: usize) -> Arg
         } => number_in(word, base, least, digits, most, at),
         Kind::Either(one, other) => either_in(word, one, other, at),
         Kind::Hex(most) => bytes_in(word, bytes, at, most),
+        Kind::Dashed(most) => dashed_in(word, bytes, at, most),
     }
 }
 
