@@ -1,0 +1,51 @@
+-- Laws of what a line says. Assumes nothing.
+use Prim.Native.Nat.{ℕ, _+_, _-_, _≤_}
+use mathlib.Core.Path.{_≡_, refl, ap, _∙_}
+use mathlib.Core.Bool.{true}
+use mathlib.Core.List.{List}
+use native.Mathlib.Omega.{arith}
+use lib.ListN.{take, drop}
+use Rattle.words.specs.Pack.{packedOf, readable}
+use Rattle.words.specs.Word.{wordEnd, firstOf}
+use Rattle.words.specs.Args.{Said, saidIn, kindsOf, roomFor, GivenFits}
+use Rattle.words.specs.declared.args.Given.{Given}
+use Rattle.words.proofs.Arguing.{looked-up}
+use Rattle.words.proofs.Rows.{rowAt, Others, known-in, unknown-in}
+use Rattle.laying.proofs.Laying.{front}
+use Rattle.jobs.specs.Said.{commands, noCommand, rowOf, verbOf, saidOf, sentRoom, AskedFits}
+use Rattle.jobs.specs.declared.read.Verb.{Verb}
+use Rattle.jobs.specs.declared.read.Row.{Row}
+
+-- ---- the table
+
+module _ (w : List ℕ) (k : ℕ) (number : k ≡ packedOf w) (bytes : readable w k ≡ true) where
+  pub row-known : (n : ℕ) (r : Row) → k ≡ n → r ≡ rowAt noCommand commands n → r ≡ rowOf w
+  unfolding rowOf commands
+  row-known n r e h = known-in noCommand w k number bytes commands refl n r e h
+
+  pub row-unknown : Others noCommand Unit k commands → noCommand ≡ rowOf w
+  unfolding rowOf commands
+  row-unknown o = unknown-in noCommand w k number bytes commands refl o
+
+-- ---- a whole line
+
+module _ (w : List ℕ) (end : ℕ) (row : Row) (g : Given) (e : end ≡ 0 + wordEnd (drop 0 w)) (r : row ≡ rowOf (take (end - 0) (drop 0 w))) where
+  row-is : row ≡ rowOf (firstOf w)
+  row-is = let p : end - 0 ≡ wordEnd w = omega (arith, e) in r ∙ ap (λ (k : ℕ). rowOf (take k w)) p
+
+  pub verb-told : row .0 ≡ verbOf w
+  verb-told = ap (λ (x : Row). x .0) row-is
+
+  pub line-told : (s : Said) → s ≡ saidIn 18597 (row .1) w → s ≡ saidOf w
+  line-told s h = h ∙ ap (λ (x : Row). saidIn 18597 (x .1) w) row-is
+
+pub line-fits : (row : Row) (g : Given) → roomFor (kindsOf (row .1)) ≤ sentRoom → GivenFits (row .1) g → AskedFits (record { verb = row .0; given = g })
+line-fits row g h f = record { end = omega (arith, f .end); numbers = looked-up (row .1) (g .count) (g .numbers) (f .numbers) }
+
+-- ---- the front of a buffer that a line is
+
+pub verb-front : (line : List ℕ) (n : ℕ) (v : Verb) → v ≡ verbOf (take (n - 0) (drop 0 line)) → v ≡ verbOf (take n line)
+verb-front line n v e = e ∙ ap verbOf (front line n)
+
+pub said-front : (line : List ℕ) (n : ℕ) (s : Said) → s ≡ saidOf (take (n - 0) (drop 0 line)) → s ≡ saidOf (take n line)
+said-front line n s e = e ∙ ap saidOf (front line n)

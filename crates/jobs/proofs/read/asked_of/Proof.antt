@@ -1,0 +1,15 @@
+-- `jobs::read::asked_of` meets its contract. Assumes nothing.
+use borrow.Author.Needs.{needs}
+use Rattle.jobs.proofs.Saying.{verb-front, said-front}
+use Rattle.jobs.proofs.read.asked_of.Statement.{statement}
+use Rattle.jobs.proofs.read.asked_of.Tie as tie
+
+pub asked-of-spec : {M : Type 1} → statement M
+asked-of-spec =
+    tie.close
+    (tie.spec
+    (λ c. search needs)
+    (λ c. search needs)
+    (λ c. search needs)
+    (λ c κs. search needs)
+    (λ c. (search needs, (search verb-front, search said-front))))
