@@ -1,0 +1,4 @@
+pub mod Blocks
+pub mod Reading
+pub mod Screen
+pub mod Promises
