@@ -23,6 +23,7 @@ use Rattle.two_wire.specs.declared.answer.BusAnswer.{BusAnswer}
 use Rattle.two_wire.specs.declared.event.BusStep.{BusStep}
 use Rattle.two_wire.specs.Record.{atRest}
 use Rattle.two_wire.specs.Event.{byEvent, bySize, does, Did}
+use Rattle.input.specs.Lines.{unended, isSkipped, answerTo, keptAfter}
 use Rattle.words.specs.declared.args.Verdict.{Verdict}
 use Rattle.words.specs.declared.args.Verdict.the-variants as verdict
 use Rattle.words.specs.Args.{given, judged, saidBy}
@@ -33,10 +34,10 @@ use Rattle.lines.specs.declared.read.Verb.the-variants as verb
 use Rattle.lines.specs.declared.read.Asked.{Asked}
 use Rattle.lines.specs.declared.write.Answer.{Answer}
 use Rattle.lines.specs.declared.write.Answer.the-variants as answer
-use Rattle.lines.specs.Said.{unended, verbOf, saidOf, isSkipped, Fits, AskedFits}
+use Rattle.lines.specs.Said.{verbOf, saidOf, Fits, AskedFits}
 use Rattle.lines.specs.Told as told
 use Rattle.lines.specs.Told.{Told, partsOf, bytesIn, tells, AnswerFits}
-use Rattle.corridor.specs.Played.{Board, opening, takes, lends, loses, replyTold, callTold, hears, kindTold, eventTold, sees, obeyed, played, answerTo, boardAfter}
+use Rattle.corridor.specs.Played.{Board, opening, takes, lends, loses, replyTold, callTold, hears, kindTold, eventTold, sees, obeyed, played}
 use Rattle.corridor.specs.Session.{boardOf, Within, Acts, Answers}
 use Rattle.corridor.specs.declared.session.Session.{Session}
 use Rattle.corridor.specs.declared.session.Acted.{Acted}
@@ -256,7 +257,7 @@ module _ (b : Board) (asked : Asked) (sent img buf : List ℕ) (r : Acted) where
 -- a line of a buffer, of which w is what is left without a carriage return at its end
 module _ (session : Session) (img line w out : List ℕ) (b : Bool) (u : w ≡ unended line) (e : b ≡ isSkipped w) where
   pub responded-nothing : Within session → b ≡ true → Answers (boardOf session img) line (record { session = session; length = 0 }) img out
-  unfolding answerTo boardAfter
+  unfolding answerTo keptAfter
   responded-nothing s t = record { within = record { size = s .size; lent = s .lent }; room = omega arith; board = rw (← u, ← e, t); text = rw (← u, ← e, t) }
 
   pub responded : (asked : Asked) (acted : Acted) (img′ buf sent : List ℕ) (r : ℕ) → b ≡ false
@@ -265,7 +266,7 @@ module _ (session : Session) (img line w out : List ℕ) (b : Bool) (u : w ≡ u
       → r ≤ 2080
       → Line (partsOf (tells (acted .told) buf img′)) r out
       → Answers (boardOf session img) line (record { session = acted .session; length = r }) img′ out
-  unfolding answerTo boardAfter
+  unfolding answerTo keptAfter
   responded asked acted img′ buf sent r f (v, s) a room l =
       record {
         within = a .within;

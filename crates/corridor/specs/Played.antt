@@ -22,13 +22,14 @@ use Rattle.two_wire.specs.Record.{phaseOf, atRest}
 use Rattle.two_wire.specs.Gathered.{gathered}
 use Rattle.two_wire.specs.Answer as wires
 use Rattle.two_wire.specs.Event.{after, does}
+use Rattle.input.specs.Lines.{Program}
 use Rattle.words.specs.Args.{Said, given, unknown, wrong, long}
 use Rattle.laying.specs.Parts.{lineText}
 use Rattle.lines.specs.declared.read.Verb.{Verb}
 use Rattle.lines.specs.declared.read.Verb.the-variants as verb
 use Rattle.lines.specs.declared.write.Word.{Word}
 use Rattle.lines.specs.declared.write.Word.the-variants as word
-use Rattle.lines.specs.Said.{unended, verbOf, saidOf, isSkipped}
+use Rattle.lines.specs.Said.{verbOf, saidOf}
 use Rattle.lines.specs.Told as told
 use Rattle.lines.specs.Told.{Told, pageIn, partsOf}
 
@@ -159,10 +160,11 @@ played b v unknown = answers b told.noSuchCommand
 played b v wrong = answers b told.notSoWritten
 played b v long = answers b told.tooLong
 
--- The whole of a line: what it is answered by, and the board that it leaves. "A carriage return at the end of a line is dropped";
--- "Empty lines, and lines that begin with `#`, are skipped and answered by nothing".
-unfoldable pub answerTo : Board → List ℕ → List ℕ
-answerTo b line = let l = unended line in cond (isSkipped l) [] (lineText (partsOf (played b (verbOf l) (saidOf l) .told)))
-
-unfoldable pub boardAfter : Board → List ℕ → Board
-boardAfter b line = let l = unended line in cond (isSkipped l) b (played b (verbOf l) (saidOf l) .board)
+-- The whole of the program: what a line is answered by, and the board that it leaves. It comes here as the reading of lines leaves it: "A
+-- carriage return at the end of a line is dropped"; "Empty lines, and lines that begin with `#`, are skipped and answered by nothing".
+abbrev pub program : Program Board
+program = record {
+  opening = opening;
+  answer = (λ b l. lineText (partsOf (played b (verbOf l) (saidOf l) .told)));
+  next = (λ b l. played b (verbOf l) (saidOf l) .board);
+}

@@ -1,10 +1,15 @@
--- How the program holds a board: the image at the start of a buffer, and the rest in a session. Assumes nothing.
+-- How the program holds a board: the image at the start of a buffer, and the rest in a session; and how a run ends. Assumes nothing.
 use Prim.Native.Nat.{ℕ, _≤_}
 use mathlib.Core.Path.{_≡_}
 use mathlib.Core.List.{List}
 use lib.ListN.{take}
+use Rattle.input.specs.Lines.{answerTo, keptAfter}
+use Rattle.input.specs.Running.{AtEnd}
 use Rattle.lines.specs.Told.{tells, AnswerFits}
-use Rattle.corridor.specs.Played.{Board, Played, answerTo, boardAfter}
+use Rattle.corridor.specs.Played.{Board, Played, program}
+use Rattle.corridor.specs.declared.Ending.{Ending}
+use Rattle.corridor.specs.declared.Ending.the-variants as ending
+use Rattle.corridor.specs.declared.State.{State}
 use Rattle.corridor.specs.declared.session.Session.{Session}
 use Rattle.corridor.specs.declared.session.Acted.{Acted}
 use Rattle.corridor.specs.declared.session.Responded.{Responded}
@@ -28,5 +33,11 @@ pub record Acts (p : Played) (r : Acted) (img buf : List ℕ) : Type 0 where
 pub record Answers (b : Board) (line : List ℕ) (r : Responded) (img out : List ℕ) : Type 0 where
   pub within : Within (r .session)
   pub room : r .length ≤ 2080
-  pub board : boardOf (r .session) img ≡ boardAfter b line
-  pub text : take (r .length) out ≡ answerTo b line
+  pub board : boardOf (r .session) img ≡ keptAfter program b line
+  pub text : take (r .length) out ≡ answerTo program b line
+
+-- Where the input ended, the program stands behind the end of an input; img is the image's buffer.
+abbrev pub Ends : Ending → State → List ℕ → Type 0
+Ends ending.Over s img = AtEnd program (boardOf (s .session) img)
+Ends ending.Unwritten s img = Unit
+Ends ending.Worn s img = Unit

@@ -1,6 +1,5 @@
 // Plays the tag on standard input and output: commands in, one a line, and one line out for each.
 mod calls;
-mod input;
 mod session;
 
 use input::Chunk;
@@ -16,8 +15,10 @@ use session::respond;
 ghost use mathlib.Core.Path.{_≡_};
 ghost use Prim.Native.Nat.{_≤_};
 ghost use lib.ListN.{length};
-ghost use Rattle.corridor.specs.Reading.{Reads, Goes, Ends};
-ghost use Rattle.corridor.specs.Session.{Within};
+ghost use Rattle.input.specs.Reading.{Reads};
+ghost use Rattle.input.specs.Running.{Goes};
+ghost use Rattle.corridor.specs.Played.{program};
+ghost use Rattle.corridor.specs.Session.{boardOf, Within, Ends};
 
 const STDOUT: i32 = 1;
 
@@ -49,7 +50,7 @@ fn turn(
 ) -> State
     requires { ⌜ (Reads (state .input)) × (Within (state .session)) ⌝ }
     ensures { λ r. ⌜ (Reads (r .input)) × (Within (r .session)) × (r .said ≤ 2080) ⌝ }
-    ensures { λ r. ⌜ Goes state (now (image .entry)) (now (line .entry)) (now (chunk .entry)) r (now (image .exit)) (now (line .exit)) (now (chunk .exit)) (now (out .exit)) ⌝ }
+    ensures { λ r. ⌜ Goes program (boardOf (state .session) (now (image .entry))) (state .input) (now (line .entry)) (now (chunk .entry)) (boardOf (r .session) (now (image .exit))) (r .input) (r .said) (now (line .exit)) (now (chunk .exit)) (now (out .exit)) ⌝ }
 {
     let input = state.input;
     let session = state.session;

@@ -7,14 +7,14 @@ use crate::calls::event_number;
 use crate::calls::event_told;
 use crate::calls::frame_told;
 use crate::calls::tag_told;
-use crate::input::Line;
+use input::Line;
+use input::is_skipped;
+use input::unended;
 use laying::put_front;
 use lines::read::Asked;
 use lines::read::Sent;
 use lines::read::Verb;
 use lines::read::asked_of;
-use lines::read::is_skipped;
-use lines::read::unended;
 use lines::write::Answer;
 use lines::write::Kilobyte;
 use lines::write::Out;
@@ -26,12 +26,12 @@ ghost use mathlib.Core.Path.{_≡_};
 ghost use mathlib.Core.List.{List};
 ghost use Prim.Native.Nat.{ℕ, _≤_};
 ghost use lib.ListN.{length, take, getD};
+ghost use Rattle.input.specs.Reading.{lineRoom};
 ghost use Rattle.words.specs.Args.{saidBy};
 ghost use Rattle.lines.specs.Said.{AskedFits};
 ghost use Rattle.lines.specs.Told.{Told, tells, AnswerFits};
 ghost use Rattle.corridor.specs.Played.{opening, obeyed, played, takes, lends, loses, hears, sees, answers, shows};
 ghost use Rattle.corridor.specs.Session.{boardOf, Within, Acts, Answers};
-ghost use Rattle.corridor.specs.Reading.{lineRoom};
 
 // All that is kept from line to line beside the image itself: how many bytes the image has, how many are lent for an answer, and the two
 // records.

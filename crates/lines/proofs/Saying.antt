@@ -1,13 +1,10 @@
 -- Laws of what a line says. Assumes nothing.
 use Prim.Native.Nat.{ℕ, _+_, _-_, _≤_}
-use mathlib.Core.Path.{_≡_, refl, ap, sym, subst⁻¹, _∙_}
-use mathlib.Core.Bool.{Bool, true}
+use mathlib.Core.Path.{_≡_, refl, ap, subst⁻¹, _∙_}
+use mathlib.Core.Bool.{true}
 use mathlib.Core.List.{List}
 use native.Mathlib.Omega.{arith}
-use lib.Dec.{eqb}
-use lib.ListN.{length, take, drop, getD, length-take}
-use lib.Seq.{getD-take, take-take}
-use borrow.Author.Tests.{eq-eqb, ne-eqb}
+use lib.ListN.{take, drop}
 use Rattle.words.specs.Pack.{packedOf, readable}
 use Rattle.words.specs.Word.{wordEnd, firstOf}
 use Rattle.words.specs.Args.{Said, saidIn, kindsOf, roomFor, GivenFits}
@@ -15,7 +12,7 @@ use Rattle.words.specs.declared.args.Given.{Given}
 use Rattle.words.proofs.Arguing.{looked-up}
 use Rattle.words.proofs.Rows.{rowAt, Others, known-in, unknown-in, each-row, _and_}
 use Rattle.laying.proofs.Laying.{front}
-use Rattle.lines.specs.Said.{commands, noCommand, rowOf, verbOf, saidOf, unended, isSkipped, Fits, AskedFits}
+use Rattle.lines.specs.Said.{commands, noCommand, rowOf, verbOf, saidOf, Fits, AskedFits}
 use Rattle.lines.specs.declared.read.Verb.{Verb}
 use Rattle.lines.specs.declared.read.Row.{Row}
 
@@ -79,34 +76,3 @@ verb-front line n v e = e ∙ ap verbOf (front line n)
 
 pub said-front : (line : List ℕ) (n : ℕ) (s : Said) → s ≡ saidOf (take (n - 0) (drop 0 line)) → s ≡ saidOf (take n line)
 said-front line n s e = e ∙ ap saidOf (front line n)
-
-module _ (line : List ℕ) (n : ℕ) (few : n ≤ length line) where
-  front-length : length (take n line) ≡ n
-  front-length = simp length-take (omega arith)
-
-  pub ends-empty : n ≡ 0 → take 0 line ≡ unended (take n line)
-  unfolding unended
-  ends-empty e = rw e
-
-  module _ (some : n ≡ 0 → ⊥) where
-    last-read : getD (take n line) (n - 1) 0 ≡ getD line (n - 1) 0
-    last-read = getD-take n line (n - 1) 0 (omega arith)
-
-    pub ends-dropped : getD line (n - 1) 0 ≡ 13 → take (n - 1) line ≡ unended (take n line)
-    unfolding unended
-    ends-dropped e = rw (front-length, eq-eqb (getD (take n line) (n - 1) 0) 13 (last-read ∙ e)) (sym (take-take (n - 1) n line (omega arith)))
-
-    pub ends-kept : (getD line (n - 1) 0 ≡ 13 → ⊥) → take n line ≡ unended (take n line)
-    unfolding unended
-    ends-kept h = rw (front-length, ne-eqb (getD (take n line) (n - 1) 0) 13 (λ e. h (sym last-read ∙ e)))
-
-  pub skips-empty : n ≡ 0 → true ≡ isSkipped (take n line)
-  unfolding isSkipped
-  skips-empty e = rw e
-
-  pub skips-comment : (n ≡ 0 → ⊥) → (b : Bool) → b ≡ eqb (getD line 0 0) 35 → b ≡ isSkipped (take n line)
-  unfolding isSkipped
-  skips-comment some b e =
-      let h : (length (take n line) ≡ 0 → ⊥) = (λ z. some (sym front-length ∙ z)) in
-      let g : getD (take n line) 0 0 ≡ getD line 0 0 = getD-take n line 0 0 (omega arith) in
-      rw (ne-eqb (length (take n line)) 0 h, g) e

@@ -1,10 +1,8 @@
 -- What a line says: the first column of the table of the lines. Assumes nothing.
-use Prim.Native.Nat.{ℕ, _-_, _≤_}
+use Prim.Native.Nat.{ℕ, _≤_}
 use mathlib.Core.Path.{_≡_}
-use mathlib.Core.Bool.{Bool, true, cond}
 use mathlib.Core.List.{List, [], _∷_}
-use lib.Dec.{eqb}
-use lib.ListN.{length, take, getD}
+use lib.ListN.{take, getD}
 use Rattle.words.specs.Text.{text}
 use Rattle.words.specs.Pack.{pack}
 use Rattle.words.specs.Word.{firstOf}
@@ -81,20 +79,12 @@ rowOf w = rowIn noCommand commands w
 
 -- ---- a whole line
 
--- "A carriage return at the end of a line is dropped": one, which is 13, before the line is judged
-unfoldable pub unended : List ℕ → List ℕ
-unended line = let last = length line - 1 in cond (eqb (getD line last 0) 13) (take last line) line
-
 abbrev pub verbOf : List ℕ → Verb
 verbOf line = rowOf (firstOf line) .0
 
 -- "a line of more than 16,397 characters"
 abbrev pub saidOf : List ℕ → Said
 saidOf line = saidIn 16397 (rowOf (firstOf line) .1) line
-
--- "Empty lines, and lines that begin with `#`, are skipped and answered by nothing". `#` is 35.
-unfoldable pub isSkipped : List ℕ → Bool
-isSkipped line = cond (eqb (length line) 0) true (eqb (getD line 0 0) 35)
 
 -- ---- how much a command may ask for, so that it fits the buffers and a byte
 

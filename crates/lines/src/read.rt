@@ -9,7 +9,7 @@ ghost use mathlib.Core.Path.{_≡_};
 ghost use Prim.Native.Nat.{_≤_};
 ghost use lib.ListN.{length, take};
 ghost use Rattle.words.specs.Args.{kindsOf, roomFor, saidBy};
-ghost use Rattle.lines.specs.Said.{rowOf, verbOf, saidOf, unended, isSkipped, AskedFits};
+ghost use Rattle.lines.specs.Said.{rowOf, verbOf, saidOf, AskedFits};
 
 // Room for the bytes of an image or of a frame, from its start.
 pub type Sent = [u8; 8192];
@@ -131,32 +131,6 @@ fn row_of(word: &[u8]) -> Row
         BUS => Row(Verb::Bus, Shape(0, NONE, NONE, NONE)),
         _ => Row(Verb::Help, Shape(4, NONE, NONE, NONE)),
     }
-}
-
-// The length of the line that the first `len` bytes of `line` are, without a carriage return at its end.
-pub fn unended(line: &[u8], len: usize) -> usize
-    requires { ⌜ len ≤ length (now line) ⌝ }
-    ensures { λ r. ⌜ (r ≤ len) × (take r (now (line .entry)) ≡ unended (take len (now (line .entry)))) ⌝ }
-{
-    if len == 0 {
-        return 0;
-    }
-    let last = len - 1;
-    if line[last] == b'\r' {
-        return last;
-    }
-    len
-}
-
-// Whether the line that the first `len` bytes of `line` are is answered by nothing: an empty line, or a comment.
-pub fn is_skipped(line: &[u8], len: usize) -> bool
-    requires { ⌜ len ≤ length (now line) ⌝ }
-    ensures { λ r. ⌜ r ≡ isSkipped (take len (now (line .entry))) ⌝ }
-{
-    if len == 0 {
-        return true;
-    }
-    line[0] == b'#'
 }
 
 // What the line that the first `len` bytes of `line` are asks for.

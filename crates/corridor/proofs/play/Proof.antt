@@ -1,14 +1,16 @@
 -- `corridor::play` meets its contract. Assumes nothing.
 use borrow.Author.Needs.{needs}
-use Rattle.corridor.specs.Session.{Within}
-use Rattle.corridor.specs.Reading.{Reads, Reached}
-use Rattle.corridor.proofs.Shell.{reached-start, reached-next, reached-end}
+use Rattle.input.specs.Reading.{Reads}
+use Rattle.input.specs.Running.{Reached}
+use Rattle.input.proofs.Shell.{reached-start, reached-next, reached-end}
+use Rattle.corridor.specs.Played.{program}
+use Rattle.corridor.specs.Session.{boardOf, Within}
 use Rattle.corridor.proofs.play.Statement.{statement}
 use Rattle.corridor.proofs.play.Tie as tie
 
 abbrev Inv-loop : tie.InvT-loop
 Inv-loop image₀ answer₀ bytes₀ out₀ line₀ chunk₀ most state₀ turns₀ image answer bytes out line chunk state turns =
-    Reads (state .input) × Within (state .session) × Reached state image line chunk
+    Reads (state .input) × Within (state .session) × Reached program (boardOf (state .session) image) (state .input) line chunk
 
 abbrev μ-loop : tie.MeasureT-loop
 μ-loop image₀ answer₀ bytes₀ out₀ line₀ chunk₀ most state₀ turns₀ image answer bytes out line chunk state turns = turns

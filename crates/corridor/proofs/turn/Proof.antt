@@ -1,6 +1,7 @@
 -- `corridor::turn` meets its contract. Assumes nothing.
 use borrow.Author.Needs.{needs}
-use Rattle.corridor.proofs.Shell.{turn-answers, turn-waits}
+use Rattle.input.proofs.Shell.{turn-answers, turn-waits}
+use Rattle.corridor.proofs.Long.{long-alike}
 use Rattle.corridor.proofs.turn.Statement.{statement}
 use Rattle.corridor.proofs.turn.Tie as tie
 
@@ -11,5 +12,5 @@ turn-spec =
     (λ c κs. search needs)
     (λ c κs. search needs)
     (λ c κs. search needs)
-    (λ c. (search needs, record { on = (λ t stands. search turn-answers) }))
-    (λ c. (search needs, record { on = (λ t stands. search turn-waits) })))
+    (λ c. (search needs, record { on = (λ t stands. search (turn-answers, long-alike)) }))
+    (λ c. (search needs, record { on = (λ t stands. search (turn-waits, long-alike)) })))

@@ -6,10 +6,11 @@ ghost use mathlib.Core.Path.{_≡_};
 ghost use mathlib.Core.List.{_++_};
 ghost use Prim.Native.Nat.{_-_, _<_, _≤_};
 ghost use lib.ListN.{length, take, drop};
-ghost use Rattle.corridor.specs.Reading.{Reads, Refills, Begins, Advances, ahead as Reading·ahead};
+ghost use Rattle.input.specs.Lines.{unended, isSkipped};
+ghost use Rattle.input.specs.Reading.{Reads, Refills, Begins, Advances, ahead as Reading·ahead};
 
-// Two more than the longest command has.
-pub const ROOM: usize = 16399;
+// Two more than the longest line of any program has: the workshop's, of 18,597 characters.
+pub const ROOM: usize = 18599;
 
 pub type Line = [u8; ROOM];
 
@@ -130,4 +131,30 @@ impl Input {
             over: false,
         }
     }
+}
+
+// The length of the line that the first `len` bytes of `line` are, without a carriage return at its end.
+pub fn unended(line: &[u8], len: usize) -> usize
+    requires { ⌜ len ≤ length (now line) ⌝ }
+    ensures { λ r. ⌜ (r ≤ len) × (take r (now (line .entry)) ≡ unended (take len (now (line .entry)))) ⌝ }
+{
+    if len == 0 {
+        return 0;
+    }
+    let last = len - 1;
+    if line[last] == b'\r' {
+        return last;
+    }
+    len
+}
+
+// Whether the line that the first `len` bytes of `line` are is answered by nothing: an empty line, or a comment.
+pub fn is_skipped(line: &[u8], len: usize) -> bool
+    requires { ⌜ len ≤ length (now line) ⌝ }
+    ensures { λ r. ⌜ r ≡ isSkipped (take len (now (line .entry))) ⌝ }
+{
+    if len == 0 {
+        return true;
+    }
+    line[0] == b'#'
 }

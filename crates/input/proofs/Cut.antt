@@ -11,8 +11,9 @@ use borrow.Author.Tests.{lt-ltb, le-ltb}
 use Rattle.basics.proofs.Choice.{never}
 use Rattle.bytes.specs.Bytes.{indexOf, slice}
 use Rattle.laying.specs.Parts.{word, Laid}
-use Rattle.corridor.specs.Reading.{firstLine, hasNewline, lineRoom, kept, ahead, Reads, Refills, Advances}
-use Rattle.corridor.specs.declared.input.Input.{Input}
+use Rattle.input.specs.Lines.{firstLine, hasNewline}
+use Rattle.input.specs.Reading.{lineRoom, kept, ahead, Reads, Refills, Advances}
+use Rattle.input.specs.declared.Input.{Input}
 
 -- ---- bytes behind a line, as many as it has room for
 

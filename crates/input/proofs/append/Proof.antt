@@ -1,8 +1,8 @@
--- `corridor::input::append` meets its contract. Assumes nothing.
+-- `input::append` meets its contract. Assumes nothing.
 use borrow.Author.Needs.{needs}
-use Rattle.corridor.proofs.Cut.{append-all, append-cut}
-use Rattle.corridor.proofs.input.append.Statement.{statement}
-use Rattle.corridor.proofs.input.append.Tie as tie
+use Rattle.input.proofs.Cut.{append-all, append-cut}
+use Rattle.input.proofs.append.Statement.{statement}
+use Rattle.input.proofs.append.Tie as tie
 
 pub append-spec : {M : Type 1} → statement M
 append-spec =

@@ -1,8 +1,8 @@
--- `lines::read::unended` meets its contract. Assumes nothing.
+-- `input::unended` meets its contract. Assumes nothing.
 use borrow.Author.Needs.{needs}
-use Rattle.lines.proofs.Saying.{ends-empty, ends-dropped, ends-kept}
-use Rattle.lines.proofs.read.unended.Statement.{statement}
-use Rattle.lines.proofs.read.unended.Tie as tie
+use Rattle.input.proofs.Front.{ends-empty, ends-dropped, ends-kept}
+use Rattle.input.proofs.unended.Statement.{statement}
+use Rattle.input.proofs.unended.Tie as tie
 
 pub unended-spec : {M : Type 1} → statement M
 unended-spec =
