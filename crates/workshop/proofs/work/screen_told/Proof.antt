@@ -1,0 +1,13 @@
+-- `workshop::work::screen_told` meets its contract. Assumes nothing.
+use borrow.Author.Needs.{needs}
+use Rattle.workshop.proofs.Working.{told-verdict, told-refusal}
+use Rattle.workshop.proofs.work.screen_told.Statement.{statement}
+use Rattle.workshop.proofs.work.screen_told.Tie as tie
+
+pub screen-told-spec : {M : Type 1} → statement M
+screen-told-spec =
+    tie.close
+    (tie.spec
+    (λ c κs. search needs)
+    (λ c. search told-verdict)
+    (λ c. search told-refusal))
