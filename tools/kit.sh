@@ -80,3 +80,35 @@ prove() {
     fi
     rm -f "$log" "$log.proved"
 }
+
+# build_program CRATE: has the crate's program built where it isn't yet, or where its sources are newer. Sets `program`, its file.
+build_program() {
+    program=$root/target/bin/$1
+    built=$root/target/$1-built
+    if [ ! -x "$program" ] || [ "$program" -nt "$built" ] || ! is_new "$built"; then
+        prove 'building the program' check "$1"
+        : >"$built"
+    fi
+}
+
+# run_program HINT..: runs `program`, which plays lines on standard input and output, and exits with its status. A person at a terminal is told
+# how to begin, in so many lines more as there are hints. A closed pipe is an error of the program's write, and not its silent end. A program
+# in Rattle has no exit status of its own to give: what it says on standard error, with its name in front, says that it failed. Programs are for
+# x86-64, and run with the kit's C library.
+run_program() {
+    if [ -t 0 ]; then
+        for hint in 'type a line; "help" names the commands, Ctrl-D ends' "$@"; do
+            printf '%s: %s\n' "$name" "$hint" >&2
+        done
+    fi
+    trap '' PIPE
+    { :; } 2>/dev/null 3>&1 || fail 'standard output is closed'
+    exec 3>&1
+    said=$(${emulator:+"$emulator"} "$toolchain/lib/ld-linux-x86-64.so.2" --library-path "$toolchain/lib" "$program" 2>&1 >&3 3>&-)
+    status=$?
+    [ -z "$said" ] || printf '%s\n' "$said" >&2
+    case $said in
+    *"$name: "*) [ "$status" -ne 0 ] || status=1 ;;
+    esac
+    exit "$status"
+}
