@@ -1,4 +1,4 @@
-# make run      plays a day on the tag (day/day.txt), and builds it first where it isn't built; make alone does this
+# make run      plays a day on the tag and its screen (day/day.txt), and builds their programs first where they are not built; make alone does this
 # make test     the gate: the stored scripts are those of the second opinion, a generated proof is what its tool writes, everything is proved and
 #               run, each edit is refused for each thing that it changes, and the header, its structs and the example in C are the library's
 # make long     tries tags that are wrong in one thing each on the stored script, then compares the tag with the second opinion on a million lines
