@@ -1,17 +1,25 @@
 /*
  * A controller's main loop over the corridor tag. The front end and the pin driver are stubs that replay what they once saw; on a board they
- * are interrupts and registers. What matters is between them: one image, one record for each side, and a call for whatever happens.
+ * are interrupts and registers. What matters is between them: one image, one record for each side, a call for whatever happens, and one for what
+ * the screen is to show.
  */
 #include "corridor_tag.h"
 #include "host.h"
 
 /* ---- what a firmware holds: the image, the two records, and room for an answer */
 
-/* A factory-fresh board of 45 pages; page 06h will hold the reading. */
+/* A factory-fresh board of 45 pages; pages 04h to 07h will hold the reading. */
 static uint8_t image[CORRIDOR_IMAGE_45] = CORRIDOR_FACTORY_45;
 static uint8_t answer[CORRIDOR_ANSWER_ROOM];
 static corridor_tag_record tag;
 static corridor_bus_record bus;
+
+/* ---- the clock: a moment is a minute of the day, from 07:00 on */
+
+/* The board counts seconds from midnight, and so does its logger. */
+static uint32_t second_at(unsigned moment) {
+    return 25200 + 60 * (uint32_t)moment;
+}
 
 /* ---- the front end: a stub that replays an exchange, each frame at its moment */
 
@@ -26,9 +34,9 @@ static const struct heard exchange[] = {
     {20, "REQA", 7, {0x26}},
     {21, "SELECT, first part", 72, {0x93, 0x70, 0x88, 0x1D, 0xA2, 0x30, 0x07, 0xB5, 0x39}},
     {22, "SELECT, second part", 72, {0x95, 0x70, 0x11, 0x09, 0x67, 0xEC, 0x93, 0x55, 0xA8}},
-    {23, "READ 06h", 32, {0x30, 0x06, 0x34, 0xCD}},
-    {31, "READ 06h, while the logger writes", 32, {0x30, 0x06, 0x34, 0xCD}},
-    {40, "READ 06h, after the logger's stop", 32, {0x30, 0x06, 0x34, 0xCD}},
+    {23, "READ 04h", 32, {0x30, 0x04, 0x26, 0xEE}},
+    {31, "READ 04h, while the logger writes", 32, {0x30, 0x04, 0x26, 0xEE}},
+    {40, "READ 04h, after the logger's stop", 32, {0x30, 0x04, 0x26, 0xEE}},
     {41, "READ F0h, which is no page", 32, {0x30, 0xF0, 0x8D, 0x5F}},
     {42, "the field is lost", 0, {0}},
 };
@@ -40,13 +48,30 @@ struct seen {
     uint8_t event, byte;
 };
 
+#define SENT(moment, byte) {moment, CORRIDOR_BYTE_SENT, byte}
+
 static const struct seen transfers[] = {
-    {10, CORRIDOR_START, 0},        {11, CORRIDOR_BYTE_SENT, 0xA0}, {11, CORRIDOR_BYTE_SENT, 0x40}, {11, CORRIDOR_BYTE_SENT, 0x18},
-    {12, CORRIDOR_BYTE_SENT, 0x07}, {12, CORRIDOR_BYTE_SENT, 0x10}, {12, CORRIDOR_BYTE_SENT, 0x00}, {12, CORRIDOR_BYTE_SENT, 0x2A},
-    {13, CORRIDOR_STOP, 0},         {30, CORRIDOR_START, 0},        {30, CORRIDOR_BYTE_SENT, 0xA0}, {30, CORRIDOR_BYTE_SENT, 0x40},
-    {30, CORRIDOR_BYTE_SENT, 0x18}, {30, CORRIDOR_BYTE_SENT, 0x07}, {30, CORRIDOR_BYTE_SENT, 0x15}, {30, CORRIDOR_BYTE_SENT, 0x00},
-    {30, CORRIDOR_BYTE_SENT, 0x39}, {32, CORRIDOR_STOP, 0},         {50, 9, 0},
+    /* at 07:10: 42 W, a reading of second 25800 */
+    {10, CORRIDOR_START, 0},
+    SENT(11, 0xA0), SENT(11, 0x40), SENT(11, 0x10),
+    SENT(12, 0x03), SENT(12, 0x0B), SENT(12, 0xD5), SENT(12, 0x00), SENT(12, 0x08),
+    SENT(12, 0xC8), SENT(12, 0x64), SENT(12, 0x00), SENT(12, 0x00),
+    SENT(12, 0x2A), SENT(12, 0x00), SENT(12, 0x00), SENT(12, 0x00), SENT(12, 0xFE),
+    {13, CORRIDOR_STOP, 0},
+    /* at 07:30: 57 W, a reading of second 27000 */
+    {30, CORRIDOR_START, 0},
+    SENT(30, 0xA0), SENT(30, 0x40), SENT(30, 0x10),
+    SENT(30, 0x03), SENT(30, 0x0B), SENT(30, 0xD5), SENT(30, 0x00), SENT(30, 0x08),
+    SENT(30, 0x78), SENT(30, 0x69), SENT(30, 0x00), SENT(30, 0x00),
+    SENT(30, 0x39), SENT(30, 0x00), SENT(30, 0x00), SENT(30, 0x00), SENT(30, 0xFE),
+    {32, CORRIDOR_STOP, 0},
+    /* and something that is no event */
+    {50, 9, 0},
 };
+
+/* ---- the timer: the moments at which the screen is looked at again, since a reading grows old without any event */
+
+static const unsigned looks[] = {5, 25, 26, 31, 45, 46};
 
 #define COUNT(list) (sizeof(list) / sizeof *(list))
 
@@ -107,17 +132,41 @@ static void on_event(const struct seen *seen) {
         print("\n");
 }
 
-/* ---- the main loop: whatever comes next, from either side */
+/* ---- the screen: what the image holds, at this moment */
+
+static void on_screen(unsigned moment) {
+    static const char *const verdicts[] = {[CORRIDOR_LIVE] = " live: ", [CORRIDOR_OLD] = " old: ", [CORRIDOR_AHEAD] = " ahead: "};
+    uint32_t present = second_at(moment);
+    corridor_screen_answer said = corridor_screen(image, sizeof image, present);
+    print("screen");
+    if (said.refused != CORRIDOR_TAKEN) {
+        show_refusal(said.refused); /* on a board: show that there is no reading */
+        return;
+    }
+    bool ahead = said.verdict == CORRIDOR_AHEAD;
+    print(verdicts[said.verdict]);
+    print_number(said.watts);
+    print(" W, read ");
+    print_number(ahead ? said.second - present : present - said.second);
+    print(ahead ? " s from now\n" : " s ago\n");
+}
+
+/* ---- the main loop: whatever comes next, from either side, and the screen after a stop and when its time has come */
 
 int program(void) {
-    size_t frames = 0, events = 0;
+    size_t frames = 0, events = 0, looked = 0;
     tag = corridor_field_off();
     bus = corridor_bus_at_rest();
-    for (unsigned moment = 0; frames < COUNT(exchange) || events < COUNT(transfers); moment++) {
-        while (events < COUNT(transfers) && transfers[events].moment == moment)
-            on_event(&transfers[events++]);
+    for (unsigned moment = 0; frames < COUNT(exchange) || events < COUNT(transfers) || looked < COUNT(looks); moment++) {
+        while (events < COUNT(transfers) && transfers[events].moment == moment) {
+            on_event(&transfers[events]);
+            if (transfers[events++].event == CORRIDOR_STOP)
+                on_screen(moment);
+        }
         while (frames < COUNT(exchange) && exchange[frames].moment == moment)
             on_frame(&exchange[frames++]);
+        for (; looked < COUNT(looks) && looks[looked] == moment; looked++)
+            on_screen(moment);
     }
     return 0;
 }

@@ -20,6 +20,9 @@ HOLDS(bus_offsets, offsetof(corridor_bus_record, phase) == 0 && offsetof(corrido
 HOLDS(bus_answer_size, sizeof(corridor_bus_answer) == 3);
 HOLDS(bus_answer_offsets, offsetof(corridor_bus_answer, refused) == 0 && offsetof(corridor_bus_answer, kind) == 1 &&
                               offsetof(corridor_bus_answer, value) == 2);
+HOLDS(screen_answer_size, sizeof(corridor_screen_answer) == 12);
+HOLDS(screen_answer_offsets, offsetof(corridor_screen_answer, refused) == 0 && offsetof(corridor_screen_answer, verdict) == 1 &&
+                                 offsetof(corridor_screen_answer, watts) == 4 && offsetof(corridor_screen_answer, second) == 8);
 
 /* ---- the library's side, by what it does */
 
@@ -116,9 +119,46 @@ static void check_bus_record(void) {
     expect("corridor_bus_answer.refused", said.refused, CORRIDOR_REFUSED_EVENT);
 }
 
+/* Its answer comes back in registers, so each byte of each field is told from the others by its value, and there is no room to paint. */
+static void check_screen_answer(void) {
+    static const uint8_t reading[] = {0x03, 0x0B, 0xD5, 0x00, 0x08, 0x11, 0x22, 0x33, 0x44, 0x55, 0x66, 0x77, 0x88, 0xFE};
+    enum { SECOND = 0x44332211 };
+    const uint32_t watts = 0x88776655;
+    for (size_t i = 0; i < sizeof reading; i++)
+        image[16 + i] = reading[i];
+    static const struct {
+        const char *what;
+        uint32_t present;
+        uint8_t verdict;
+    } moments[] = {
+        {"corridor_screen_answer.verdict at the second of the reading", SECOND, CORRIDOR_LIVE},
+        {"corridor_screen_answer.verdict after 900 seconds", SECOND + 900, CORRIDOR_LIVE},
+        {"corridor_screen_answer.verdict after 901 seconds", SECOND + 901, CORRIDOR_OLD},
+        {"corridor_screen_answer.verdict a second before", SECOND - 1, CORRIDOR_AHEAD},
+    };
+    for (size_t i = 0; i < sizeof moments / sizeof *moments; i++) {
+        corridor_screen_answer said = corridor_screen(image, sizeof image, moments[i].present);
+        expect("corridor_screen_answer.refused", said.refused, CORRIDOR_TAKEN);
+        expect(moments[i].what, said.verdict, moments[i].verdict);
+        expect("corridor_screen_answer.watts", said.watts, watts);
+        expect("corridor_screen_answer.second", said.second, SECOND);
+    }
+
+    image[17] = 0x0A;
+    corridor_screen_answer said = corridor_screen(image, sizeof image, SECOND);
+    expect("corridor_screen_answer.refused", said.refused, CORRIDOR_REFUSED_NO_READING);
+    expect("corridor_screen_answer, all but refused", said.verdict + (uint64_t)said.watts + said.second, 0);
+    image[17] = 0xFE;
+    expect("corridor_screen_answer.refused", corridor_screen(image, sizeof image, SECOND).refused, CORRIDOR_REFUSED_PASSES);
+    image[16] = 0xFE;
+    expect("corridor_screen_answer.refused", corridor_screen(image, sizeof image, SECOND).refused, CORRIDOR_REFUSED_NO_MESSAGE);
+    expect("corridor_screen_answer.refused", corridor_screen(image, 183, SECOND).refused, CORRIDOR_REFUSED_IMAGE);
+}
+
 int program(void) {
     check_tag_record();
     check_bus_record();
+    check_screen_answer();
     expect("corridor_pages", corridor_pages(CORRIDOR_IMAGE_45) * 1000000 + corridor_pages(CORRIDOR_IMAGE_135) * 1000 + corridor_pages(CORRIDOR_IMAGE_231), 45135231);
     expect("corridor_pages of another length", corridor_pages(185), 0);
     expect("corridor_answer_room", corridor_answer_room(), CORRIDOR_ANSWER_ROOM);

@@ -2,7 +2,8 @@
  * The corridor tag, for a controller's firmware in C.
  *
  * The tag has two sides that share one image: radio frames after demodulation, and two-wire events after the pin driver. A firmware holds
- * the image and two records, and hands them to every call; the tag itself keeps nothing.
+ * the image and two records, and hands them to every call; the tag itself keeps nothing. A board with a screen asks the same image what to
+ * show of the reading that its logger wrote (corridor_screen).
  *
  *     static uint8_t image[CORRIDOR_IMAGE_45] = CORRIDOR_FACTORY_45;    the pages, and a tail of four bytes
  *     static uint8_t answer[CORRIDOR_ANSWER_ROOM];                      where answers are put
@@ -25,9 +26,11 @@
  *
  * Interrupts. A call touches what it is given and nothing else, so calls on different images, records and buffers may run at once, in
  * interrupts or on several cores. Two calls that share one of these may not: where the bus can interrupt a frame on the same image, hold its
- * event back until corridor_frame has returned. docs/COST.md has how long calls take.
+ * event back until corridor_frame has returned. corridor_screen only reads its image, and may not be interrupted by a call that changes it.
+ * docs/COST.md has how long calls take.
  *
- * Stack. The deepest that was measured on x86-64 is 336 bytes, the caller's frame among them (docs/COST.md).
+ * Stack. The deepest that was measured on x86-64 is 336 bytes, the caller's frame among them (docs/COST.md), over all calls but
+ * corridor_screen.
  *
  * When to save the image. Three kinds of frames and one event can change it, so a copy in flash is behind only after one of these:
  *
@@ -107,11 +110,14 @@ extern "C" {
 
 /* Why a call was refused. */
 enum {
-    CORRIDOR_TAKEN = 0,          /* it was not */
-    CORRIDOR_REFUSED_IMAGE = 1,  /* the image is not 184, 544 or 928 bytes long */
-    CORRIDOR_REFUSED_BUFFER = 2, /* the answer buffer has under 1,024 bytes */
-    CORRIDOR_REFUSED_FRAME = 3,  /* no bits or over 512, bytes that are not the bits rounded up, or a set bit above the last */
-    CORRIDOR_REFUSED_EVENT = 4   /* an event that is not one of the five */
+    CORRIDOR_TAKEN = 0,               /* it was not */
+    CORRIDOR_REFUSED_IMAGE = 1,       /* the image is not 184, 544 or 928 bytes long */
+    CORRIDOR_REFUSED_BUFFER = 2,      /* the answer buffer has under 1,024 bytes */
+    CORRIDOR_REFUSED_FRAME = 3,       /* no bits or over 512, bytes that are not the bits rounded up, or a set bit above the last */
+    CORRIDOR_REFUSED_EVENT = 4,       /* an event that is not one of the five */
+    CORRIDOR_REFUSED_NO_MESSAGE = 20, /* the user pages have no block of type 03h */
+    CORRIDOR_REFUSED_PASSES = 21,     /* a block's length, or the bytes that it counts, passes the user pages */
+    CORRIDOR_REFUSED_NO_READING = 22  /* the first block of type 03h is not a reading */
 };
 
 /* corridor_tag_record.state */
@@ -142,6 +148,13 @@ enum {
     CORRIDOR_WRITING = 4,
     CORRIDOR_READING = 5,
     CORRIDOR_DEAF = 6
+};
+
+/* corridor_screen_answer.verdict; 0 is none of them, and comes with a refusal */
+enum {
+    CORRIDOR_LIVE = 1, /* the reading is 0 to 900 seconds old */
+    CORRIDOR_OLD = 2,  /* it is older */
+    CORRIDOR_AHEAD = 3 /* it lies in the future */
 };
 
 /* ---- records */
@@ -175,6 +188,14 @@ typedef struct {
     uint8_t kind;    /* CORRIDOR_NOTHING, CORRIDOR_ACKNOWLEDGE or CORRIDOR_BYTE */
     uint8_t value;
 } corridor_bus_answer;
+
+/* What a screen is to show. In a refused answer all but `refused` is 0. */
+typedef struct {
+    uint8_t refused; /* CORRIDOR_TAKEN, or why the call was refused */
+    uint8_t verdict; /* CORRIDOR_LIVE, CORRIDOR_OLD or CORRIDOR_AHEAD */
+    uint32_t watts;  /* of the reading, with each of the three */
+    uint32_t second; /* of the reading, as the logger wrote it */
+} corridor_screen_answer;
 
 /* ---- radio */
 
@@ -212,6 +233,39 @@ corridor_bus_record corridor_bus_at_rest(void);
  * all ones, so the line is to be let go, as for an acknowledge bit of 0.
  */
 corridor_bus_answer corridor_bus_event(corridor_bus_record *bus, uint8_t *image, size_t image_length, uint8_t event, uint8_t byte);
+
+/* ---- the screen */
+
+/*
+ * What a screen is to show of the image's reading at the present second. The image is only looked at, and nothing is kept from call to call.
+ *
+ * A reading is a message block of eleven bytes. A logger writes these 14 bytes at page 04h, which is 4010h on the two wires; they lie within
+ * one 64-byte page, so that one stop stores them all:
+ *
+ *     03           the type of the block: a message
+ *     0B           its length: eleven bytes follow
+ *     D5 00 08     by which a reading is known
+ *     s0 s1 s2 s3  the second of the reading, low byte first
+ *     w0 w1 w2 w3  the watts, low byte first
+ *     FE           the end of the blocks
+ *
+ * It is looked for block by block, from page 04h to the last user page (27h, 81h or E1h), in the bytes as they are stored, whatever is locked or
+ * under password. A type of 00h is a block of one byte. FEh ends the blocks. Any other type is followed by a length, one byte, or FFh and two
+ * bytes, high byte first, and by as many bytes. The first block of type 03h is taken: it must hold exactly the eleven bytes from D5 on, and what
+ * stands behind it is not looked at. Refused: 1, an image of another length, which is tested first; 20, FEh or the end of the user pages came
+ * before any block of type 03h; 21, a length, or the bytes that it counts, passes the last user page, in that block or before it; 22, that
+ * block holds anything else. A factory-fresh image has an empty message, and is refused with 22.
+ *
+ * `present` and the second of the reading are any count of seconds that the board shares with its logger, as those since 1970. They are
+ * compared as they stand, and nothing wraps: a reading is live at its own second and up to 900 seconds later, old from then on, and ahead
+ * before its second, by however little, as where two clocks differ. Where a count begins anew, as at midnight, the last reading before that is
+ * ahead.
+ *
+ * When to call: after what changes the image (see the head of this file), and as time passes, since a reading grows old without any
+ * event. Look at `refused` first; a firmware that forgets to shows no verdict, and neither watts nor second. Who can write the user pages can write
+ * a reading. On the radio a lock or the password keeps others from them, and binds no logger on the wires.
+ */
+corridor_screen_answer corridor_screen(const uint8_t *image, size_t image_length, uint32_t present);
 
 /* ---- what there is to know of an image */
 

@@ -2,6 +2,7 @@
 // contract. `corridor_bus_event` stands in two_wire, where it is proved.
 use image::layout::Size;
 use radio::Answer;
+use screen::ScreenAnswer;
 use tag::outcome::ANSWER_ROOM;
 use tag::record::TagRecord;
 use two_wire::BusRecord;
@@ -13,6 +14,7 @@ ghost use Rattle.tag.specs.Outcome.{answerRoom};
 ghost use Rattle.tag.specs.Record.{recordOf, fieldLoss};
 ghost use Rattle.radio.specs.Call.{called, Met};
 ghost use Rattle.two_wire.specs.Record.{atRest};
+ghost use Rattle.screen.specs.Screen.{seen, answerOf};
 ghost use Rattle.board.specs.Board.{pagesOf};
 
 // The record to begin with.
@@ -52,6 +54,14 @@ pub extern "C" fn corridor_bus_at_rest() -> BusRecord
     ensures { λ r. ⌜ r ≡ atRest ⌝ }
 {
     two_wire::bus_at_rest()
+}
+
+// What the screen is to show of an image at the present second.
+#[no_mangle]
+pub extern "C" fn corridor_screen(image: &[u8], present: u32) -> ScreenAnswer
+    ensures { λ r. ⌜ r ≡ answerOf (seen (now (image .entry)) present) ⌝ }
+{
+    screen::screen(image, present)
 }
 
 // How many pages an image of so many bytes has.
