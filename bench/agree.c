@@ -1,4 +1,4 @@
-/* Holds the proved tag against the plain one on mixed frames and bus events. */
+/* Holds the proved tag against the plain one on mixed frames, bus events and looks of the screen. */
 #include "host.h"
 #include "plain.h"
 #include "tags.h"
@@ -18,6 +18,22 @@ static uint8_t dice_byte(void) { return (uint8_t)dice(256); }
 
 /* ---- both give the same */
 
+/* Mostly a reading, behind a block or some empty bytes, now and then with a byte of it damaged. */
+static void lay_reading(uint8_t *user) {
+    static const uint8_t lock_control[] = {0x01, 0x03, 0xA0, 0x0C, 0x34}, long_block[] = {0x02, 0xFF, 0x00, 0x01, 0x00};
+    uint8_t reading[] = {0x03, 0x0B, 0xD5, 0x00, 0x08, dice_byte(), (uint8_t)dice(16), 0, 0, dice_byte(), dice_byte(), dice_byte(), dice_byte(), 0xFE};
+    size_t before = dice(2) ? 5 : 0;
+    const uint8_t *block = dice(2) ? lock_control : long_block;
+    if (dice(5) == 0)
+        reading[dice(sizeof reading)] = dice_byte();
+    for (size_t i = 0; i < before; i++)
+        user[i] = block[i];
+    for (size_t i = dice(3); i > 0; i--)
+        user[before++] = 0;
+    for (size_t i = 0; i < sizeof reading; i++)
+        user[before + i] = reading[i];
+}
+
 static void take_image(void) {
     static const size_t lengths[] = {CORRIDOR_IMAGE_45, CORRIDOR_IMAGE_135, CORRIDOR_IMAGE_231, 183};
     size_t length = lengths[dice(30) ? dice(3) : 3], pages = corridor_pages(length);
@@ -33,6 +49,8 @@ static void take_image(void) {
         for (int k = 0; k < 3; k++)
             settings[16 + k] = dice(2) ? 0xFF : dice_byte();
         settings[19] = (uint8_t)dice(9);
+        if (dice(4))
+            lay_reading(proved.image + 16);
     }
     for (size_t i = 0; i < length; i++)
         plain.image[i] = proved.image[i];
@@ -102,6 +120,12 @@ static bool same_event(uint8_t event, uint8_t byte) {
     return a.refused == b.refused && a.kind == b.kind && a.value == b.value;
 }
 
+static bool same_screen(void) {
+    uint32_t present = dice(6000);
+    corridor_screen_answer a = proved.screen(proved.image, proved.length, present), b = plain.screen(plain.image, plain.length, present);
+    return a.refused == b.refused && a.verdict == b.verdict && a.watts == b.watts && a.second == b.second;
+}
+
 static uint8_t bus_byte(void) {
     switch (proved.bus.phase) {
     case CORRIDOR_AWAITS_DEVICE: return dice(8) ? 0xA0 + (uint8_t)dice(2) : dice_byte();
@@ -118,6 +142,8 @@ static bool same_step(void) {
         plain.record = plain.field_loss(plain.record);
         return true;
     }
+    if (dice(20) == 0)
+        return same_screen();
     if (dice(3) == 0)
         return same_event(dice(4) ? CORRIDOR_BYTE_SENT : (uint8_t)dice(6), bus_byte());
     struct frame f = damaged(dice_frame());
@@ -143,6 +169,6 @@ int program(void) {
         return 1;
     }
     print_number(STEPS);
-    print(" mixed frames and bus events: both tags give the same answers, records, images and buffers\n");
+    print(" mixed frames, bus events and looks of the screen: both tags give the same answers, records, images and buffers\n");
     return 0;
 }

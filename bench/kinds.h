@@ -10,9 +10,10 @@ struct kind {
     unsigned times; /* in one round */
     struct frame frame;
     uint8_t state;
+    bool reading; /* whether a reading stands at page 04h */
 };
 
-enum { KINDS = 11 };
+enum { KINDS = 13 };
 
 /* Fills the list. */
 void list_kinds(struct kind kinds[KINDS]);
