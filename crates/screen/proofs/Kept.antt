@@ -8,10 +8,12 @@ use lib.Seq.{ext-getD, getD-take, getD-drop}
 use Rattle.locks.specs.Locks.{lockPage}
 use Rattle.locks.proofs.Lock.{by-size}
 use Rattle.image.specs.declared.layout.Size.the-variants.{Pages}
-use Rattle.image.specs.Layout.{sizeOf, Fits}
-use Rattle.screen.specs.Blocks.{walk, BlockByBlock}
-use Rattle.screen.specs.Screen.{foundSeen, userBytes, seen}
+use Rattle.image.specs.Layout.{sizeOf, fourAt, Fits}
+use Rattle.screen.specs.Blocks.{counted, block, blocks, walk, BlockByBlock}
+use Rattle.screen.specs.Reading.{isReading, lowFirstFour, verdictAt}
+use Rattle.screen.specs.Screen.{readingSeen, foundSeen, userBytes, seen}
 use Rattle.screen.specs.Promises.{Ages, SameUserPages, Promises}
+use Rattle.screen.specs.Examples.{Examples}
 use Rattle.screen.proofs.Walking.{goes, only, stops}
 use Rattle.screen.proofs.Seeing.{age-ahead, age-live, age-old}
 
@@ -71,4 +73,27 @@ promises = record {
   alike = λ r r′ img present e f. e ∙ sym f;
   stops = stops;
   elsewhere = λ n img img′ present s. same-seen n img img′ s present;
+}
+
+-- each by computing both sides
+pub examples : Examples
+unfolding walk blocks block counted isReading lowFirstFour fourAt verdictAt readingSeen
+examples = record {
+  alone = refl;
+  behindLockControl = refl;
+  behindNulls = refl;
+  longLength = refl;
+  lowByteFirst = refl;
+  firstOfTwo = refl;
+  behindTheEnd = refl;
+  noLength = refl;
+  oneByteShort = refl;
+  toTheEnd = refl;
+  sameSecond = refl;
+  lastLive = refl;
+  firstOld = refl;
+  latest = refl;
+  oneAhead = refl;
+  empty = refl;
+  twelveBytes = refl;
 }

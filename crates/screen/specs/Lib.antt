@@ -2,3 +2,4 @@ pub mod Blocks
 pub mod Reading
 pub mod Screen
 pub mod Promises
+pub mod Examples
