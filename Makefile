@@ -19,6 +19,7 @@ test:
 long:
 	@python3 second wrong
 	@./corridor --build
+	@./workshop --build
 	@python3 second long $(N) $(SEED)
 
 board:

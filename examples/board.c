@@ -146,7 +146,7 @@ static void on_screen(unsigned moment) {
     bool ahead = said.verdict == CORRIDOR_AHEAD;
     print(verdicts[said.verdict]);
     print_number(said.watts);
-    print(" W, read ");
+    print(ahead ? " W, dated " : " W, read ");
     print_number(ahead ? said.second - present : present - said.second);
     print(ahead ? " s from now\n" : " s ago\n");
 }

@@ -29,8 +29,7 @@
  * event back until corridor_frame has returned. corridor_screen only reads its image, and may not be interrupted by a call that changes it.
  * docs/COST.md has how long calls take.
  *
- * Stack. The deepest that was measured on x86-64 is 336 bytes, the caller's frame among them (docs/COST.md), over all calls but
- * corridor_screen.
+ * Stack. The deepest that was measured on x86-64 is 336 bytes, the caller's frame among them (docs/COST.md).
  *
  * When to save the image. Three kinds of frames and one event can change it, so a copy in flash is behind only after one of these:
  *

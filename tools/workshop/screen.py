@@ -17,7 +17,7 @@ SECONDS      the present second as the logger counts them, 0 to 4294967295. With
 
     live: 310 W, read 4 min ago          the reading is 0 to 900 seconds old
     old: 310 W, read 2 h 10 min ago      it is older
-    ahead: 310 W, read 3 min from now    it lies in the future
+    ahead: 310 W, dated 3 min from now   it lies in the future
 
 Times are rounded down. To try it on the board of a day, which counts seconds from midnight, at 18:00:
 
@@ -59,7 +59,7 @@ def says(ask, image, present):
     if verdict == "refused":
         return in_words(number), False
     away = span(abs(present - second_of(ask, image)))
-    return f"{verdict}: {number} W, read {away} {'from now' if verdict == 'ahead' else 'ago'}", True
+    return f"{verdict}: {number} W, {f'dated {away} from now' if verdict == 'ahead' else f'read {away} ago'}", True
 
 
 def read(words):

@@ -6,7 +6,7 @@ use native.Mathlib.Omega.{arith}
 use lib.ListN.{length}
 use borrow.Author.Tests.{lt-ltb}
 use Rattle.input.specs.Running.{LongAlike}
-use Rattle.words.specs.Args.{Said, saidIn, long}
+use Rattle.words.specs.Args.{saidIn, long}
 use Rattle.laying.specs.Parts.{lineText}
 use Rattle.lines.specs.declared.read.Verb.the-variants as verb
 use Rattle.lines.specs.Said.{verbOf, saidOf}
