@@ -1,22 +1,26 @@
-"""The second opinion: an independent tag that the proved one is held against.
+"""The second opinion: independent programs that the proved ones are held against.
 
 usage: python3 second COMMAND
 
-  write                   writes the stored script and its answers
-  check                   says how often the stored script reaches each rule, and
+  write                   writes the stored scripts and their answers
+  check                   says how often the stored scripts reach each rule, and
                           whether the files are as generated
   long [LINES] [SEED]     sends fresh scripts (1,000,000 lines, a seed from the
-                          clock) to the program and compares every answer
-  wrong [NAME]            tries tags that are wrong in one thing each, and names those
-                          that the stored script doesn't notice; with a name, or a
-                          part of one, says where those are noticed
+                          clock) to the programs, and compares every answer
+  wrong [NAME]            tries programs that are wrong in one thing each, and names
+                          those that the stored scripts don't notice; with a name,
+                          or a part of one, says where those are noticed
   piece SEED              prints one piece of a long run, by the seed it names
-  answers                 reads lines and prints the second tag's answers
+  answers                 reads lines and prints the second opinion's answers
   help                    prints this
 
 options:
-  --into DIR              write, check: DIR/stdin and DIR/stdout, not the stored files
-  --program PATH          long: this program in place of ./corridor
+  --of NAME               this program alone: write, check, long and wrong take all
+                          without it, piece and answers corridor
+  --into DIR              write, check: DIR/NAME/stdin and DIR/NAME/stdout, not the
+                          stored files
+  --program PATH          long: this program in place of ./NAME, and that one alone;
+                          without --of it is corridor
   --jobs N                long, wrong: this many processes at a time (2)
 """
 
@@ -27,16 +31,10 @@ from pathlib import Path
 sys.dont_write_bytecode = True
 
 from compare import PIECE_LINES, compare_long, first_difference, readable
-from lines.player import Player
-from rules import RULES, never_reached, play_and_count, table
-from scenes.stored import fresh_script, stored_script
+from programs import PROGRAMS
 from wrong.command import try_all, try_named
 
-ROOT = Path(__file__).resolve().parent.parent
-
-# Where the stored script lies: one folder, with stdin and stdout, for each
-# program that plays the tag.
-FOLDERS = [ROOT / "crates" / "corridor"]
+ALL_SHARES = sum(program.share for program in PROGRAMS.values())
 
 
 class WrongUse(Exception):
@@ -58,36 +56,47 @@ def options_of(arguments, allowed):
     return plain, options
 
 
+def at_most(amount, plain, hint=""):
+    if len(plain) > amount:
+        raise WrongUse(f"{plain[amount]} is one word too many{hint}")
+
+
 def whole_number(word, least=0):
     if not word.isdecimal() or int(word) < least:
         raise WrongUse(f"{word} isn't a number from {least} up")
     return int(word)
 
 
-def folders_of(arguments):
-    plain, options = options_of(arguments, ["--into"])
-    if plain:
-        raise WrongUse(f"{plain[0]} is one word too many")
-    return [Path(options["--into"])] if "--into" in options else FOLDERS
+def program_named(name):
+    if name not in PROGRAMS:
+        raise WrongUse(f"{name} isn't one of {', '.join(PROGRAMS)}")
+    return PROGRAMS[name]
 
 
-def stored_files(folders):
+def programs_of(options):
+    """The program of --of, or all."""
+    return [program_named(options["--of"])] if "--of" in options else list(PROGRAMS.values())
+
+
+def stored_files(program, into):
     """Makes script and answers anew; gives each file with its content, and how
     often the script reaches each rule."""
-    text = stored_script()
-    _, answers, counts = play_and_count(text)
+    text = program.stored_script()
+    _, answers, counts = program.rules.play_and_count(text)
     given = b"".join(answer + b"\n" for answer in answers if answer is not None)
-    files = [(folder / name, content) for folder in folders
-             for name, content in (("stdin", text), ("stdout", given))]
-    return files, counts
+    folder = Path(into) / program.name if into else program.folder
+    return [(folder / "stdin", text), (folder / "stdout", given)], counts
 
 
 def write(arguments):
-    files, _ = stored_files(folders_of(arguments))
-    for path, content in files:
-        path.parent.mkdir(parents=True, exist_ok=True)
-        path.write_bytes(content)
-        print(f"{path}: {len(content)} bytes")
+    plain, options = options_of(arguments, ["--of", "--into"])
+    at_most(0, plain)
+    for program in programs_of(options):
+        files, _ = stored_files(program, options.get("--into"))
+        for path, content in files:
+            path.parent.mkdir(parents=True, exist_ok=True)
+            path.write_bytes(content)
+            print(f"{path}: {len(content)} bytes")
     return 0
 
 
@@ -109,14 +118,22 @@ def verdict(path, content):
 
 
 def check(arguments):
-    files, counts = stored_files(folders_of(arguments))
-    print(table(counts))
-    print()
+    plain, options = options_of(arguments, ["--of", "--into"])
+    at_most(0, plain)
+    made = [(program, *stored_files(program, options.get("--into"))) for program in programs_of(options)]
+    for program, _, counts in made:
+        print(f"{program.name}\n\n{program.rules.table(counts)}\n")
+    return 0 if all([check_one(*one) for one in made]) else 1
+
+
+def check_one(program, files, counts):
+    """Says what is reached and what is stored of one program; True if it is all."""
     good = True
-    unreached = never_reached(counts)
-    print(f"{len(RULES) - len(unreached)} of {len(RULES)} rules reached")
+    rules = program.rules.rules
+    unreached = program.rules.never_reached(counts)
+    print(f"{program.name}: {len(rules) - len(unreached)} of {len(rules)} rules reached")
     for key in unreached:
-        print(f"never reached: {key}: {RULES[key]}")
+        print(f"never reached: {key}: {rules[key]}")
         good = False
     for path, content in files:
         difference = verdict(path, content)
@@ -125,46 +142,55 @@ def check(arguments):
             good = False
         else:
             print(f"{path} is as generated: {len(content)} bytes")
-    return 0 if good else 1
+    return good
 
 
 def long(arguments):
-    plain, options = options_of(arguments, ["--program", "--jobs"])
-    if len(plain) > 2:
-        raise WrongUse(f"{plain[2]} is one word too many")
+    plain, options = options_of(arguments, ["--of", "--program", "--jobs"])
+    at_most(2, plain)
     lines = whole_number(plain[0], 1) if plain else 1000000
     seed = whole_number(plain[1]) if len(plain) > 1 else int(time.time())
-    program = Path(options.get("--program", ROOT / "corridor")).resolve()
-    if not program.exists():
-        raise WrongUse(f"there is no program {program}")
     jobs = whole_number(options.get("--jobs", "2"), 1)
-    return 0 if compare_long(str(program), lines, seed, jobs) else 1
-
-
-def wrong(arguments):
-    plain, options = options_of(arguments, ["--jobs"])
-    if len(plain) > 1:
-        raise WrongUse(f"{plain[1]} is one word too many; put a name that has spaces in quotes")
-    jobs = whole_number(options.get("--jobs", "2"), 1)
-    if not plain:
-        return 0 if try_all(jobs) else 1
-    good = try_named(plain[0])
-    if good is None:
-        raise WrongUse(f"no wrong tag has {plain[0]} in its name")
+    if "--program" in options:
+        options.setdefault("--of", "corridor")
+    programs = programs_of(options)
+    paths = [Path(options.get("--program", program.launcher)).resolve() for program in programs]
+    for path in paths:
+        if not path.exists():
+            raise WrongUse(f"there is no program {path}")
+    good = True
+    for program, path in zip(programs, paths):
+        share = lines if len(programs) == 1 else -(-lines * program.share // ALL_SHARES)
+        good = compare_long(program.name, str(path), share, seed, jobs) and good
     return 0 if good else 1
 
 
+def wrong(arguments):
+    plain, options = options_of(arguments, ["--of", "--jobs"])
+    at_most(1, plain, "; put a name that has spaces in quotes")
+    jobs = whole_number(options.get("--jobs", "2"), 1)
+    names = [program.name for program in programs_of(options)]
+    if not plain:
+        return 0 if all([try_all(name, jobs) for name in names]) else 1
+    found = [good for good in [try_named(name, plain[0]) for name in names] if good is not None]
+    if not found:
+        raise WrongUse(f"no wrong program has {plain[0]} in its name")
+    return 0 if all(found) else 1
+
+
 def piece(arguments):
-    if len(arguments) != 1:
+    plain, options = options_of(arguments, ["--of"])
+    if len(plain) != 1:
         raise WrongUse("piece takes one seed")
-    sys.stdout.buffer.write(fresh_script(whole_number(arguments[0]), PIECE_LINES))
+    program = program_named(options.get("--of", "corridor"))
+    sys.stdout.buffer.write(program.fresh_script(whole_number(plain[0]), PIECE_LINES))
     return 0
 
 
 def answers(arguments):
-    if arguments:
-        raise WrongUse(f"{arguments[0]} is one word too many")
-    player = Player()
+    plain, options = options_of(arguments, ["--of"])
+    at_most(0, plain)
+    player = program_named(options.get("--of", "corridor")).player()
     for line in sys.stdin.buffer:
         answer = player.answer(line[:-1] if line.endswith(b"\n") else line)
         if answer is not None:

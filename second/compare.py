@@ -1,11 +1,10 @@
-"""Holds the proved tag against the second opinion, on fresh scripts."""
+"""Holds a proved program against the second opinion, on fresh scripts."""
 
 import multiprocessing
 import subprocess
 import sys
 
-from rules import RULES, never_reached, play_and_count
-from scenes.stored import fresh_script
+from programs import PROGRAMS
 
 PIECE_LINES = 4000
 DIFFERENCES_PRINTED = 5
@@ -35,10 +34,10 @@ def compare_answers(lines, due, given):
 
 def compare_piece(work):
     """Sends one piece to the program; gives what came of it."""
-    seed, lines_wished, program = work
-    text = fresh_script(seed, lines_wished)
-    lines, due, counts = play_and_count(text)
-    run = subprocess.run([program], input=text, stdout=subprocess.PIPE, check=False)
+    seed, lines_wished, name, path = work
+    text = PROGRAMS[name].fresh_script(seed, lines_wished)
+    lines, due, counts = PROGRAMS[name].rules.play_and_count(text)
+    run = subprocess.run([path], input=text, stdout=subprocess.PIPE, check=False)
     given = run.stdout.split(b"\n")
     if given[-1] == b"":
         given.pop()
@@ -66,13 +65,14 @@ def first_difference(one, other):
     return same
 
 
-def compare_long(program, lines_wished, seed, jobs):
-    """The whole comparison; True if no answer differs."""
-    print(f"long {lines_wished} {seed}: fresh scripts for {program}", flush=True)
-    work = [(piece_seed, min(lines_wished, PIECE_LINES), program)
+def compare_long(name, path, lines_wished, seed, jobs):
+    """The whole comparison of one program; True if no answer differs."""
+    print(f"long {lines_wished} {seed} --of {name}: fresh scripts for {path}", flush=True)
+    work = [(piece_seed, min(lines_wished, PIECE_LINES), name, path)
             for piece_seed in piece_seeds(seed, lines_wished)]
+    rules = PROGRAMS[name].rules
     lines = answers = differences = 0
-    total = dict.fromkeys(RULES, 0)
+    total = dict.fromkeys(rules.rules, 0)
     with multiprocessing.Pool(jobs) as pool:
         for done, (piece, sent, compared, differing, counts) in enumerate(
                 pool.imap_unordered(compare_piece, work), 1):
@@ -89,7 +89,7 @@ def compare_long(program, lines_wished, seed, jobs):
                 print(f"\r{lines} lines, {done} of {len(work)} pieces", end="", file=sys.stderr)
     if sys.stderr.isatty():
         print(file=sys.stderr)
-    unreached = never_reached(total)
+    unreached = rules.never_reached(total)
     print(f"{lines} lines sent, {answers} answers compared, {differences} differing")
     print(f"{len(total) - len(unreached)} of {len(total)} rules reached"
           + (f"; never: {', '.join(unreached)}" if unreached else ""))

@@ -1,6 +1,8 @@
 """The line protocol of LINES.md, with the second tag behind it.
 
-    reading     a line as a command word and its arguments
+    words       a line as a command word and its arguments, in both programs
+    answering   one answer for each line, in both programs
+    reading     the lines of `corridor`
     records     the tag record and the bus record in words
-    player      plays the tag: one answer for each line
+    player      plays the tag: `corridor`
 """

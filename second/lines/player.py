@@ -1,37 +1,24 @@
-"""Plays the tag on lines.
+"""Plays the tag on lines: the program `corridor`."""
 
-`Player.answer(line)` takes one line, as bytes and without its newline, and
-gives the answering line, or None for a line that is skipped.
-"""
-
-from lines.reading import BadLine, command_of, is_skipped, without_return
+from lines.answering import Answering
+from lines.reading import TABLE
 from lines.records import bus_in_words, tag_in_words
 from tag.bits import bytes_of
-from tag.calls import EVENTS, Refused, Tag
+from tag.calls import EVENTS, Tag
 from tag.frames import SILENCE
 
 HELP = ("commands: image HEX, buffer N, field, frame BITS HEX, parity BITS HEX, "
         "start, stop, send HH, read ack, read nak, event N HH, show, show HH, tag, bus, help")
 
 
-class Player:
-    """One answer for each line; a method for each command word."""
+class Player(Answering):
+    """A method for each command word."""
+
+    table = TABLE
 
     def __init__(self):
         self.tag = Tag()        # "Before the first `image` line the image is empty."
         self.buffer_length = 1024
-
-    def answer(self, line):
-        text = without_return(line)
-        if is_skipped(text):
-            return None
-        try:
-            word, arguments = command_of(text)
-            return getattr(self, f"play_{word}")(*arguments).encode("ascii")
-        except BadLine as bad:
-            return f"error: {bad}".encode("ascii")
-        except Refused as refused:
-            return f"refused {refused.number}".encode("ascii")
 
     def play_image(self, data=b""):
         self.tag.take_image(data)

@@ -1,6 +1,7 @@
 """The lines of LINES.md."""
 
-from lines.reading import LARGEST_FRAME, LARGEST_IMAGE, LARGEST_NUMBER, LONGEST_LINE, without_return
+from lines.reading import LARGEST_FRAME, LARGEST_IMAGE, LARGEST_NUMBER, LONGEST_LINE
+from rules import skipped
 from rules.naming import each
 
 RULES = {
@@ -10,11 +11,7 @@ RULES = {
            "the table of lines: {}"),
     **each("line.event", ["0", "1", "2", "3", "4", "other"],
            "`event N HH`: the two-wire event of number N ({})"),
-    "line.skipped/empty": "Empty lines [...] are skipped and answered by nothing",
-    "line.skipped/comment": "lines that begin with `#` are skipped and answered by nothing",
-    "line.skipped/long-comment": "A comment may be of any length",
-    "line.skipped/comment-odd-bytes": "lines that begin with `#` are skipped, whatever they hold",
-    "line.last/without-newline": "a last line without its newline counts",
+    **skipped.RULES,
     "form.hex/lower": "Bytes are pairs of hex digits, either case in, capitals out",
     "form.hex/upper": "Bytes are pairs of hex digits, either case in, capitals out",
     "form.hex/mixed": "Bytes are pairs of hex digits, either case in, capitals out",
@@ -31,26 +28,6 @@ RULES = {
     "image.resets/bus": "the bus record at rest with nothing gathered and counter 4000h",
     "image.resets/not-the-buffer": "the buffer's length stays",
 }
-
-
-def of_text(text):
-    """The rules that a whole text meets by its end."""
-    if text and not text.endswith(b"\n"):
-        yield "line.last/without-newline"
-
-
-def of_skipped(line):
-    """The rules that a skipped line meets."""
-    if line == b"":
-        yield "line.skipped/empty"
-    line = without_return(line)
-    if line == b"":
-        return
-    yield "line.skipped/comment"
-    if len(line) > LONGEST_LINE:
-        yield "line.skipped/long-comment"
-    if any(byte < 32 or byte > 126 for byte in line):
-        yield "line.skipped/comment-odd-bytes"
 
 
 def met(step):

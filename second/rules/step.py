@@ -4,8 +4,9 @@ from functools import cached_property
 from typing import NamedTuple
 
 from lines.player import Player
-from lines.reading import BadLine, command_of, is_skipped, without_return
-from rules.bad_lines import error_of
+from lines.reading import TABLE
+from lines.words import is_skipped, without_return
+from rules.line import LineStep
 from state import put_state, state_of
 from tag.bits import bits_of, bytes_of
 from tag.calls import EVENTS
@@ -32,17 +33,14 @@ class FieldMemory(NamedTuple):
         return self
 
 
-class Step:
+class Step(LineStep):
     """What the observers look at."""
 
     def __init__(self, before, line, answer, after, memory):
-        self.before, self.line, self.answer, self.after = before, line, answer, after
-        self.text = without_return(line)
+        super().__init__(line, answer, TABLE)
+        self.before, self.after = before, after
         self.memory = memory
         self.image = before.tag.image
-        self.word, self.arguments = words_and_arguments(self.text)
-        self.error = error_of(self.text) if self.word is None else None
-        self.refused = int(answer[8:]) if answer.startswith(b"refused ") else None
         self.nak = NAK_ANSWERS.get(answer)
         self.acked = answer == ACK_ANSWER
         self.frame = self.event = self.byte = None
@@ -91,14 +89,6 @@ class Step:
 EVENT_OF_WORD = {
     "start": lambda: "start", "stop": lambda: "stop", "send": lambda byte: "send",
     "read": lambda acknowledged: "read-ack" if acknowledged else "read-nak"}
-
-
-def words_and_arguments(text):
-    """The command word and its arguments; None for a bad line."""
-    try:
-        return command_of(text)
-    except BadLine:
-        return None, []
 
 
 class Watched:

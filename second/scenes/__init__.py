@@ -5,6 +5,7 @@ a part have the name of its rules: refusals, waiting, selection, active, reads,
 writes, locks, password, bus, both_sides, lines, records, returns. Beside them:
 
     dice        random numbers
+    text        the lines of a script
     images      the bytes of an image
     script      writes lines while playing along, steers, and looks at the tag;
                 script_radio and script_bus are its two sides

@@ -42,6 +42,11 @@ class Dice:
     def bytes(self, amount):
         return [self.byte() for _ in range(amount)]
 
+    def many_bytes(self, amount):
+        """As bytes(), with a throw for each eight of them."""
+        throws = -(-amount // 8)
+        return list(b"".join(self.throw().to_bytes(8, "little") for _ in range(throws))[:amount])
+
     def four(self):
         return list(self.below(2 ** 32).to_bytes(4, "little"))
 

@@ -5,32 +5,24 @@ locks, and can steer: to ACTIVE, into HALT, into any phase of the two wires.
 """
 
 from lines.player import Player
-from scenes.dice import Dice
 from scenes.images import access_byte, build_image
 from scenes.script_bus import BusLines
 from scenes.script_radio import RadioLines
+from scenes.text import Text
 from tag.frames import REQA
 
 
-class Script(RadioLines, BusLines):
+class Script(Text, RadioLines, BusLines):
     """Lines, and the second tag that has played them."""
 
     def __init__(self, seed):
-        self.dice = Dice(seed)
+        super().__init__(seed)
         self.player = Player()
-        self.lines = []
-        self.answered = 0           # how many of the lines got an answer
-        self.length = 0             # of the text so far, with its newlines
         self.reads_on_entry = True  # ACTIVE is entered with a READ
-        self.returns = False        # lines end with CRLF
 
     def say(self, line):
-        line = line if isinstance(line, bytes) else line.encode("ascii")
-        line += b"\r" if self.returns else b""
-        self.lines.append(line)
-        self.length += len(line) + 1
-        if self.player.answer(line) is not None:
-            self.answered += 1
+        super().say(line)
+        self.player.answer(self.lines[-1])
 
     def ask(self):
         """Both records in words."""
@@ -41,15 +33,6 @@ class Script(RadioLines, BusLines):
         """The second answers show that the first questions changed nothing."""
         self.ask()
         self.ask()
-
-    def comment_up_to(self, place):
-        """A comment behind which the next line begins at this place of a chunk."""
-        missing = (place - self.length - 2 - self.returns) % 4096
-        self.say("#" + "." * missing)
-
-    def text(self):
-        """The script as it is sent; its last line has no newline."""
-        return b"\n".join(self.lines)
 
     # ---- What the tag is like now
 

@@ -8,6 +8,7 @@ numbers. What is kept from call to call is plain values, replaced and never
 changed in place.
 
     calls       the whole tag: its three calls, with the four refusals
+    refusal     what a refused call gives
     bits        bits, bytes, CRC_A
     locks       which bit locks which pages, and which bit blocks it
     layout      the table of sizes

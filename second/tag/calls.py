@@ -6,6 +6,7 @@ from tag.bus import Bus
 from tag.frames import Frame
 from tag.image import Image
 from tag.radio import Radio
+from tag.refusal import Refused
 from tag.selection import in_ready
 from tag.waiting import in_halt, in_idle
 
@@ -14,14 +15,6 @@ EVENTS = ["start", "stop", "send", "read-ack", "read-nak"]
 # What one frame does in each state; gives the answer's bits.
 IN_STATE = {"IDLE": in_idle, "HALT": in_halt, "READY1": in_ready, "READY2": in_ready,
             "ACTIVE": in_active}
-
-
-class Refused(Exception):
-    """"A refused call returns its number, no answer, the records it was given,
-    and every buffer untouched." """
-
-    def __init__(self, number):
-        self.number = number
 
 
 class Tag:

@@ -5,7 +5,9 @@ and what once went unnoticed. Each gives the module, the text that is right, and
 the text that takes its place.
 """
 
-DROPPED = "return line[:-1] if line.endswith(b\"\\r\") else line"
+from lines.reading import LONGEST_LINE
+from wrong.by_hand_lines import of_lines
+
 PAGE_SHOWN = "image[4 * page:4 * page + 4]"
 PLACES = "len({bus.place_of(number) for number in range(len(bus.gathered))})"
 SELECT = "bits == with_crc([code, 0x70] + five)"
@@ -71,37 +73,7 @@ BY_HAND = {
     "an `image` line sets the buffer's length back": (
         "lines.player", "self.tag.take_image(data)\n",
         "self.tag.take_image(data)\n        self.buffer_length = 1024\n"),
-    "all carriage returns at the end of a line are dropped": (
-        "lines.reading", DROPPED, "return line.rstrip(b'\\r')"),
-    "carriage returns are dropped anywhere": (
-        "lines.reading", DROPPED, "return line.replace(b'\\r', b'')"),
-    "white space at the end of a line is dropped": (
-        "lines.reading", DROPPED, "return line.rstrip()"),
-    "an empty line with a carriage return is an error": (
-        "lines.player", "if is_skipped(text):", "if is_skipped(line):"),
-    "the carriage return counts for a line's length": (
-        "lines.player", "command_of(text)", "command_of(text if len(line) <= 16397 else line)"),
-    "a comment that is too long is an error": (
-        "lines.reading", 'text.startswith(b"#")', 'text.startswith(b"#") and len(text) <= LONGEST_LINE'),
-    "an unknown word goes before a line that is too long": (
-        "lines.reading", "if len(text) > LONGEST_LINE:",
-        "if len(text) > LONGEST_LINE and text.split(b' ')[0] in ARGUMENTS:"),
-    "a fault behind the word goes before a line that is too long": (
-        "lines.reading", "if len(text) > LONGEST_LINE:",
-        "if len(text) > LONGEST_LINE and b'' not in text.split(b' ')[1:]:"),
-    "a space too many goes before an unknown word": (
-        "lines.reading", "    if word not in ARGUMENTS:",
-        "    if b'' in rest:\n        raise BadLine(NOT_HOW)\n    if word not in ARGUMENTS:"),
-    "an odd byte goes before an unknown word": (
-        "lines.reading", "    if word not in ARGUMENTS:",
-        "    if any(byte < 32 or byte > 126 for byte in text):\n        raise BadLine(NOT_HOW)\n"
-        "    if word not in ARGUMENTS:"),
-    "an empty first word is not how a command is written": (
-        "lines.reading", "    if word not in ARGUMENTS:",
-        "    if word == b'':\n        raise BadLine(NOT_HOW)\n    if word not in ARGUMENTS:"),
-    "a capital in a command word is not how it is written": (
-        "lines.reading", "raise BadLine(NO_SUCH_COMMAND)",
-        "raise BadLine(NOT_HOW if word.lower() in ARGUMENTS else NO_SUCH_COMMAND)"),
+    **of_lines(LONGEST_LINE),
     "`show HH` hides PWD and PACK": (
         "lines.player", PAGE_SHOWN,
         PAGE_SHOWN + " if not self.tag.image.layout or page >= self.tag.image.layout.size"
@@ -134,10 +106,10 @@ BY_HAND = {
 
 
 class ByHand:
-    """A wrong tag by hand, made as those with a slip are."""
+    """A program that is wrong by hand, made as those with a slip are."""
 
-    def __init__(self, name, sources):
-        self.module, self.right, self.wrong = BY_HAND[name]
+    def __init__(self, entry, sources):
+        self.module, self.right, self.wrong = entry
         self.text = sources.texts[self.module]
         if self.text.count(self.right) != 1:
             raise ValueError(f"{self.module} has {self.right!r} {self.text.count(self.right)} times, not once")

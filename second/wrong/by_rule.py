@@ -2,8 +2,8 @@
 
 from array import array
 
-from rules import observers_of, rules_met
 from rules.both_sides import RULES as BOTH_SIDES
+from rules.corridor import BOOK
 from rules.lines import RULES as LINE_RULES
 from rules.step import Watched
 from state import put_state, state_of
@@ -79,7 +79,7 @@ class TwistedTag:
 
     def __init__(self, record, key, name):
         self.record, self.key, self.name = record, key, name
-        self.watched, self.observers = Watched(), observers_of(key)
+        self.watched, self.observers = Watched(), BOOK.observers_of(key)
 
     def stand(self, place):
         put_state(self.watched.player, self.record.states[place])
@@ -91,7 +91,7 @@ class TwistedTag:
 
     def play(self, line):
         answer, step = self.watched.play(line)
-        if self.key not in rules_met(step, line, self.observers):
+        if self.key not in BOOK.met(step, line, self.observers):
             return answer
         if self.name == ANOTHER_ANSWER:
             return another_answer(answer)

@@ -1,4 +1,4 @@
-"""Wrong by slip: the tag and the lines with one slip in their source."""
+"""Wrong by slip: a program with one slip in its source."""
 
 import ast
 import copy
@@ -7,19 +7,17 @@ from array import array
 from pathlib import Path
 from types import ModuleType
 
-from state import put_state, state_of
 from wrong.slips import number_nodes, slips_in
 from wrong.trial import Difference, answer_in_time, play_until_noticed
 
 HERE = Path(__file__).resolve().parent.parent
-PACKAGES = ["tag", "lines"]
 
 
 class Sources:
-    """The modules of the tag and of the lines, each after those it needs."""
+    """The modules of a program, each after those it needs."""
 
-    def __init__(self):
-        files = [file for package in PACKAGES for file in sorted((HERE / package).glob("*.py"))]
+    def __init__(self, modules):
+        files = [file for name in modules for file in files_of(HERE / name.replace(".", "/"))]
         self.texts = {module_of(file): file.read_text("utf-8") for file in files}
         trees = {name: number_nodes(ast.parse(text)) for name, text in self.texts.items()}
         self.trees = dict(in_order(trees))
@@ -31,6 +29,11 @@ class Sources:
     def modules_with(self, slip):
         """All modules anew, one of them with the slip."""
         return load({**self.codes, slip.module: slip.code()})
+
+
+def files_of(path):
+    """The files of a package, or the one of a module."""
+    return sorted(path.glob("*.py")) if path.is_dir() else [path.with_suffix(".py")]
 
 
 def module_of(file):
@@ -92,7 +95,7 @@ class Marked(ast.NodeTransformer):
         return ast.copy_location(ast.parse(call).body[0], statement)
 
 
-def places_run(sources, record):
+def places_run(kind, sources, record):
     """For each statement, by module and number, the lines at which it runs.
 
     A statement that runs while the modules are loaded may make a difference
@@ -101,7 +104,7 @@ def places_run(sources, record):
     ran = set()
     marked = {name: compile(ast.fix_missing_locations(Marked(name).visit(copy.deepcopy(tree))), name, "exec")
               for name, tree in sources.trees.items()}
-    player = load(marked, {"ran__": ran.add})["lines.player"].Player()
+    player = load(marked, {"ran__": ran.add})[kind.player_module].Player()
     everywhere = array("I", range(len(record.lines)))
     places = dict.fromkeys(ran, everywhere)
     for place, line in enumerate(record.lines):
@@ -115,41 +118,42 @@ def places_run(sources, record):
     return places
 
 
-class SlippedTag:
-    """A tag with a slip, made to stand as the right one stood."""
+class Slipped:
+    """A program with a slip, made to stand as the right one stood."""
 
-    def __init__(self, record, player):
-        self.record, self.player = record, player
+    def __init__(self, kind, record, player):
+        self.kind, self.record, self.player = kind, record, player
         self.play = player.answer
 
     def stand(self, place):
         if place:                   # at the start it stands as it was made
-            put_state(self.player, self.record.states[place])
+            self.kind.put_state(self.player, self.record.states[place])
 
     def stands_as(self, place):
         try:
-            return state_of(self.player) == self.record.states[place]
+            return self.kind.state_of(self.player) == self.record.states[place]
         except AttributeError:      # the slip left a part of what is kept unset
             return False
 
 
-def try_slip(record, text, places, sources, slip):
-    """The first Difference of a tag with this slip, or made by hand; or None."""
-    making = Making(record, text, sources, slip)
+def try_slip(kind, record, text, places, sources, slip):
+    """The first Difference of a program with this slip, or made by hand; or None."""
+    making = Making(kind, record, text, sources, slip)
     fault = answer_in_time(making, b"")
-    return Difference(0, fault) if fault else play_until_noticed(record, places, making.tag)
+    return Difference(0, fault) if fault else play_until_noticed(record, places, making.made)
 
 
 class Making:
-    """The making of a tag with a slip, which may crash as a line may."""
+    """The making of a program with a slip, which may crash as a line may."""
 
-    def __init__(self, record, text, sources, slip):
-        self.record, self.text, self.sources, self.slip = record, text, sources, slip
+    def __init__(self, kind, record, text, sources, slip):
+        self.kind, self.record, self.text = kind, record, text
+        self.sources, self.slip = sources, slip
 
     def play(self, line):
         """None, or what went wrong in words."""
         modules = self.sources.modules_with(self.slip)
-        if modules["lines.reading"].lines_of(self.text) != self.record.lines:
+        if modules["lines.words"].lines_of(self.text) != self.record.lines:
             return b"(reads other lines)"
-        self.tag = SlippedTag(self.record, modules["lines.player"].Player())
+        self.made = Slipped(self.kind, self.record, modules[self.kind.player_module].Player())
         return None

@@ -1,11 +1,10 @@
 """Wrong by reading: programs that read their input by chunks, and lose some of it.
 
-Each wrong reader takes the text and gives the lines that it makes of it. The
-tag behind it is right.
+Each wrong reader takes the text and gives the lines that it makes of it. What
+plays the lines is right.
 """
 
-from lines.player import Player
-from lines.reading import LONGEST_LINE, lines_of
+from lines.words import lines_of
 from wrong.trial import Difference
 
 CHUNK = 4096
@@ -86,29 +85,25 @@ def last_line_lost(text):
     return text.split(b"\n")[:-1]
 
 
-def long_line_cut(text):
+def long_line_cut(longest):
     """A line that is too long is cut, and what is left is taken."""
-    return [line[:LONGEST_LINE] for line in lines_of(text)]
+    return lambda text: [line[:longest] for line in lines_of(text)]
 
 
-def long_line_cut_with_return(text):
-    """A line that is too long is cut behind the place of a carriage return, and
-    what is left is taken."""
-    return [line[:LONGEST_LINE + 1] for line in lines_of(text)]
-
-
-def long_line_in_parts(text):
+def long_line_in_parts(longest):
     """What a line has beyond the longest is taken for the next line."""
-    for line in lines_of(text):
-        yield line[:LONGEST_LINE]
-        if len(line) > LONGEST_LINE and not line.startswith(b"#"):
-            yield line[LONGEST_LINE:]
+    def read(text):
+        for line in lines_of(text):
+            yield line[:longest]
+            if len(line) > longest and not line.startswith(b"#"):
+                yield line[longest:]
+    return read
 
 
-def long_comment_refused(text):
+def long_comment_refused(longest):
     """A comment that is longer than the longest line is answered."""
-    return [b"error" if len(line) > LONGEST_LINE and line.startswith(b"#") else line
-            for line in lines_of(text)]
+    return lambda text: [b"error" if len(line) > longest and line.startswith(b"#") else line
+                         for line in lines_of(text)]
 
 
 def turns_end(text):
@@ -155,10 +150,6 @@ READERS = {
     "a newline at the end of a read is lost": newline_lost(-1),
     "a newline at the start of a read is lost": newline_lost(0),
     "a last line without its newline is lost": last_line_lost,
-    "a line that is too long is cut and taken": long_line_cut,
-    "a line that is too long is cut behind a carriage return and taken": long_line_cut_with_return,
-    "the rest of a line that is too long is taken": long_line_in_parts,
-    "a long comment is refused": long_comment_refused,
     "the program ends after 65,536 lines": turns_end,
     "an empty line ends the program": empty_line_ends,
     "a carriage return before the end of the input stays": return_stays_at_the_end,
@@ -168,11 +159,21 @@ READERS = {
 }
 
 
-def try_reader(record, text, name):
+def readers_of(longest):
+    """The wrong readers of a program whose longest line has so many characters."""
+    return {
+        **READERS,
+        "a line that is too long is cut and taken": long_line_cut(longest),
+        "a line that is too long is cut behind a carriage return and taken": long_line_cut(longest + 1),
+        "the rest of a line that is too long is taken": long_line_in_parts(longest),
+        "a long comment is refused": long_comment_refused(longest),
+    }
+
+
+def try_reader(record, text, reader, player):
     """The first Difference of a wrong reader; or None."""
-    player = Player()
     due = [place for place, answer in enumerate(record.answers) if answer is not None]
-    given = (answer for answer in map(player.answer, READERS[name](text)) if answer is not None)
+    given = (answer for answer in map(player.answer, reader(text)) if answer is not None)
     for place in due:
         answer = next(given, b"(end of the answers)")
         if answer != record.answers[place]:

@@ -1,0 +1,34 @@
+"""The rules of `corridor`."""
+
+from lines.reading import TABLE
+from rules import (active, bad_lines, both_sides, bus, counter, lines, locks, password, reads, records,
+                   refusals, returns, selection, waiting, writes)
+from rules.book import Group, RuleBook
+from rules.step import Watched
+
+# Its longest line is a good one.
+RETURN_RULES = {**returns.rules_of(TABLE), **returns.limit_rule_of(TABLE)}
+
+GROUPS = [
+    Group("LINES.md: the lines", lines.RULES, lines.met),
+    Group("LINES.md: the board in words", records.RULES, records.met),
+    Group("LINES.md: carriage returns", RETURN_RULES, returns.met),
+    Group("LINES.md: bad lines", bad_lines.RULES, bad_lines.met),
+    Group("Numbers for a refused call", refusals.RULES, refusals.met),
+    Group("Radio states: IDLE, HALT, field loss", waiting.RULES, waiting.met),
+    Group("Radio states: READY1, READY2", selection.RULES, selection.met),
+    Group("Radio states: ACTIVE", active.RULES, active.met),
+    Group("READ and FAST_READ", reads.RULES, reads.met),
+    Group("The counter, GET_VERSION", counter.RULES, counter.met),
+    Group("PWD_AUTH", password.RULES, password.met),
+    Group("WRITE", writes.RULES, writes.met),
+    Group("Static locks", locks.STATIC_RULES, locks.met),
+    Group("Dynamic locks, N=45", locks.RULES_45, locks.met),
+    Group("Dynamic locks, N=135", locks.RULES_135, locks.met),
+    Group("Dynamic locks, N=231", locks.RULES_231, locks.met),
+    Group("Two wires: events by phase", bus.PHASE_RULES, bus.met),
+    Group("Two wires: addresses, stores, reads", bus.RULES, bus.met),
+    Group("Two sides of one tag", both_sides.RULES, both_sides.met),
+]
+
+BOOK = RuleBook(GROUPS, Watched, TABLE)
