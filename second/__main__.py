@@ -6,7 +6,8 @@ usage: python3 second COMMAND
   check                   says how often the stored scripts reach each rule, and
                           whether the files are as generated
   long [LINES] [SEED]     sends fresh scripts (1,000,000 lines, a seed from the
-                          clock) to the programs, and compares every answer
+                          clock) to the programs, nine lines of ten to corridor and
+                          one to workshop, and compares every answer
   wrong [NAME]            tries programs that are wrong in one thing each, and names
                           those that the stored scripts don't notice; with a name,
                           or a part of one, says where those are noticed
@@ -15,8 +16,8 @@ usage: python3 second COMMAND
   help                    prints this
 
 options:
-  --of NAME               this program alone: write, check, long and wrong take all
-                          without it, piece and answers corridor
+  --of NAME               this program alone, corridor or workshop: write, check, long
+                          and wrong take both without it, piece and answers corridor
   --into DIR              write, check: DIR/NAME/stdin and DIR/NAME/stdout, not the
                           stored files
   --program PATH          long: this program in place of ./NAME, and that one alone;

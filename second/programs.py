@@ -1,11 +1,14 @@
-"""The programs that are held against a second opinion."""
+"""The two programs that are held against a second opinion."""
 
 from pathlib import Path
 from typing import Callable, NamedTuple
 
 import lines.player
 import rules.corridor
+import rules.workshop
 import scenes.stored
+import scenes.workshop.stored
+import workshop.player
 from rules.book import RuleBook
 
 ROOT = Path(__file__).resolve().parent.parent
@@ -34,4 +37,6 @@ class Program(NamedTuple):
 PROGRAMS = {program.name: program for program in [
     Program("corridor", lines.player.Player, rules.corridor.BOOK,
             scenes.stored.stored_script, scenes.stored.fresh_script, 9),
+    Program("workshop", workshop.player.Player, rules.workshop.BOOK,
+            scenes.workshop.stored.stored_script, scenes.workshop.stored.fresh_script, 1),
 ]}

@@ -5,4 +5,6 @@
     reading     the lines of `corridor`
     records     the tag record and the bus record in words
     player      plays the tag: `corridor`
+
+The lines of `workshop` are in the package of that name.
 """

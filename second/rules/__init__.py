@@ -11,4 +11,5 @@ stood, the line, the answer, how it stands then. The tag knows nothing of it.
                 what the lines of both programs have in common
     corridor    the book of `corridor`, of the groups that are named as its parts
     step        its steps
+    workshop    the book of `workshop`, with groups and steps of its own
 """

@@ -14,4 +14,5 @@ writes, locks, password, bus, both_sides, lines, records, returns. Beside them:
     walks       everything mixed
     examples    the examples of document 01, with their answers
     stored      the script that is stored, and fresh ones
+    workshop    what the scripts of `workshop` play
 """

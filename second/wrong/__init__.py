@@ -6,6 +6,7 @@ get another answer from each of them than from the right one.
 
     kind        what is needed to make wrong programs of a kind
     corridor    the kind of `corridor`: wrong tags
+    workshop    the kind of `workshop`, with parts of its own
     record      the right program's way through the stored script, line by line
     trial       plays a wrong program against the record, to the first difference
     twists      wrong by rule: what a step that meets a rule might do instead
@@ -14,7 +15,7 @@ get another answer from each of them than from the right one.
     by_slip     the wrong programs of each slip, and how they are played
     by_hand     wrong by hand: mistakes of a tag that are more than a slip
     by_hand_lines
-                mistakes in reading lines
+                mistakes in reading lines, in both programs
     readers     wrong by reading: input that comes in chunks, read wrongly
     meaningless wrong tags that no script can notice, with the reason
     command     tries them all, or some by name

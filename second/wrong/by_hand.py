@@ -2,7 +2,7 @@
 
 Document 01's "Errors that tempt" are here, tags that it says must be caught,
 and what once went unnoticed. Each gives the module, the text that is right, and
-the text that takes its place.
+the text that takes its place. Those of `workshop` are in the package of that name.
 """
 
 from lines.reading import LONGEST_LINE

@@ -10,8 +10,9 @@ from wrong.corridor import CORRIDOR
 from wrong.readers import readers_of, try_reader
 from wrong.record import Record
 from wrong.trial import watch_the_time
+from wrong.workshop import WORKSHOP
 
-KINDS = {kind.program.name: kind for kind in (CORRIDOR,)}
+KINDS = {kind.program.name: kind for kind in (CORRIDOR, WORKSHOP)}
 
 
 class Trials:

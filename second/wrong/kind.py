@@ -1,4 +1,4 @@
-"""What is needed to make wrong programs of a kind."""
+"""What is needed to make wrong programs of a kind: of `corridor`, or of `workshop`."""
 
 from typing import Callable, NamedTuple
 

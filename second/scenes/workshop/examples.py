@@ -1,0 +1,142 @@
+"""Lines of `workshop` with the answers that the words of document 02 give.
+
+Every example is preceded by a comment line that names it. Bytes and answers are
+written out here; they are held against the second opinion whenever the examples
+are made, and a difference stops the making.
+"""
+
+from scenes.images import build_image
+from scenes.workshop.areas import USER_BYTES
+from workshop.player import Player
+
+# 500 watts at second 100.
+READING = "D50008 64000000 F4010000"
+
+
+class Examples:
+    """Collects the lines, and holds each answer against the one that is due."""
+
+    def __init__(self):
+        self.player = Player()
+        self.lines = []
+
+    def named(self, name):
+        self.lines.append(f"# {name}".encode("ascii"))
+
+    def line(self, line, due):
+        self.lines.append(line.encode("ascii"))
+        given = self.player.answer(line.encode("ascii")).decode("ascii")
+        if given != due:
+            raise AssertionError(f"{line}: due {due}, given {given}")
+
+    def shows(self, present, area, due, size=45):
+        """A `screen` line on an image with these bytes from page 04h on, and FFh
+        behind them."""
+        data = list(bytes.fromhex(area))
+        data += [0xFF] * (USER_BYTES[size] - len(data))
+        image = build_image(size, user=lambda page: data[4 * page - 16:4 * page - 12])
+        self.line(f"screen {present} {bytes(image).hex().upper()}", due)
+
+
+def ages(e):
+    e.named("live if the reading is 0 to 900 seconds old, old if more, ahead if it lies in the future")
+    for size in (45, 135, 231):
+        for present, word in ((100, "live"), (101, "live"), (999, "live"), (1000, "live"), (1001, "old"),
+                              (99, "ahead"), (0, "ahead"), (4294967295, "old")):
+            e.shows(present, "030B" + READING, f"{word} 500", size)
+
+
+def bytes_low_first(e):
+    e.named("seconds, then watts, each four bytes low first")
+    e.shows(0x01020304, "030B D50008 04030201 08070605", f"live {0x05060708}")
+    e.shows(0x04030201, "030B D50008 04030201 08070605", f"old {0x05060708}")
+    e.shows(0x05060708, "030B D50008 04030201 08070605", f"old {0x05060708}")
+    e.shows(0x01020303, "030B D50008 04030201 FFFFFFFF", "ahead 4294967295")
+    e.shows(0xFFFFFFFF, "030B D50008 FFFFFFFF 00000000", "live 0")
+    e.shows(0, "030B D50008 FFFFFFFF 00000000", "ahead 0")
+
+
+def blocks(e):
+    e.named("00h is one byte, FEh ends")
+    e.shows(100, "000000 030B" + READING, "live 500")
+    e.shows(100, "FE 030B" + READING, "refused 20")
+    e.shows(100, "00 FE 00", "refused 20")
+    e.named("Take the first block of type 03h")
+    e.shows(100, "0103A00C34 030B" + READING, "live 500")
+    e.shows(100, "0103FEFEFE FD00 0202030B 030B" + READING, "live 500")
+    e.shows(100, "0300 030B" + READING, "refused 22")
+    e.shows(100, "030B" + READING + "030B D50008 64000000 F5010000", "live 500")
+    e.shows(100, "010D 030B" + READING + "FE", "refused 20")
+    e.named("a factory-fresh tag holds an empty one")
+    e.shows(100, "0103A00C34 0300 FE", "refused 22")
+
+
+def lengths(e):
+    e.named("lengths are one byte or FFh and two, high byte first")
+    e.shows(100, "03FF000B" + READING, "live 500")
+    e.shows(100, "03FF0B00" + READING, "refused 21")
+    e.shows(100, "01FF0002AABB 030B" + READING, "live 500")
+    e.shows(100, "01FF0100" + "AB" * 256 + "030B" + READING, "live 500", 135)
+    e.shows(100, "01FF00FF" + "AB" * 255 + "030B" + READING, "live 500", 231)
+    e.shows(100, "01FE" + "AB" * 254 + "030B" + READING, "live 500", 231)
+
+
+def the_end(e):
+    e.named("20 no such block, 21 a length, or the bytes it counts, passes the user pages")
+    for size, room in ((45, 144), (135, 504), (231, 888)):
+        e.shows(100, "00" * room, "refused 20", size)
+        e.shows(100, "00" * (room - 1) + "FE", "refused 20", size)
+        e.shows(100, "00" * (room - 2) + "0100", "refused 20", size)
+        e.shows(100, "00" * (room - 3) + "0101AA", "refused 20", size)
+        e.shows(100, "00" * (room - 1) + "01", "refused 21", size)
+        e.shows(100, "00" * (room - 1) + "03", "refused 21", size)
+        e.shows(100, "00" * (room - 2) + "0101", "refused 21", size)
+        e.shows(100, "00" * (room - 2) + "01FF", "refused 21", size)
+        e.shows(100, "00" * (room - 3) + "01FF00", "refused 21", size)
+        e.shows(100, "00" * (room - 4) + "01FF0000", "refused 20", size)
+        e.shows(100, "00" * (room - 4) + "01FF0001", "refused 21", size)
+        e.shows(100, "00" * (room - 2) + "0300", "refused 22", size)
+        e.shows(100, "00" * (room - 13) + "030B" + READING, "live 500", size)
+        e.shows(100, "00" * (room - 12) + "030B" + READING[:-2], "refused 21", size)
+
+
+def no_readings(e):
+    e.named("22 not a reading: exactly D5 00 08 and eight bytes")
+    for message in ("0300", "030AD50008 64000000 F40100", "030CD50008 64000000 F4010000 00",
+                    "030BD40008 64000000 F4010000", "030BD50108 64000000 F4010000",
+                    "030BD50009 64000000 F4010000", "03FF0000", "03FF000CD50008 64000000 F4010000 00",
+                    "0303D50008", "030B" + "00" * 11):
+        e.shows(100, message, "refused 22")
+
+
+def wrong_images(e):
+    e.named("a wrong image is 1, tested first")
+    image = bytes(build_image(45, user=lambda page: [0xFE] * 4)).hex()
+    e.line("screen 100 -", "refused 1")
+    e.line("screen 100 00", "refused 1")
+    e.line(f"screen 100 {image[:-2]}", "refused 1")
+    e.line(f"screen 100 {image}", "refused 20")
+    e.line(f"screen 100 {image}00", "refused 1")
+    e.line("screen 100 " + "FE" * 1100, "refused 1")
+
+
+def lines(e):
+    e.named("the lines of the workshop program")
+    e.line("help", "commands: screen SECONDS IMAGE, help")
+    e.line("screen 4294967295 -", "refused 1")
+    e.line("screen 0000000000 -", "refused 1")
+    e.line("screen 4294967296 -", "error: not how this command is written")
+    e.line("screen 00000000000 -", "error: not how this command is written")
+    e.line("screen 100", "error: not how this command is written")
+    e.line("screen 100 " + "00" * 1101, "error: not how this command is written")
+    e.line("Screen 100 -", "error: no such command")
+
+
+EXAMPLES = [ages, bytes_low_first, blocks, lengths, the_end, no_readings, wrong_images, lines]
+
+
+def example_lines():
+    examples = Examples()
+    for example in EXAMPLES:
+        example(examples)
+    return examples.lines

@@ -1,0 +1,13 @@
+"""Wrong programs that answer every script as the right one does, with the reason.
+
+The names are those that `wrong` gives. It fails when one of them is noticed
+after all, or is there no more.
+"""
+
+NONE_MAY_BE_MISSING = "no line of `workshop` has a word that may be missing, so that this is asked for nothing"
+
+MEANINGLESS = {
+    f"lines/words.py command_of: {slip}": NONE_MAY_BE_MISSING for slip in [
+        "(0, 1) if word in table.last_may_be_missing else (0,) -> (0,)",
+        "0 -> 1", "0 -> -1", "1 -> 2", "1 -> 0"]
+}
