@@ -9,7 +9,6 @@ use Rattle.words.specs.Args.{Said, saidIn}
 use Rattle.words.specs.Rows.{Named, asks, rowIn}
 use Rattle.words.specs.declared.args.Kind.{Kind}
 use Rattle.words.specs.declared.args.Kind.the-variants as kind
-use Rattle.words.specs.declared.args.Given.{Given}
 use Rattle.jobs.specs.declared.read.Verb.{Verb}
 use Rattle.jobs.specs.declared.read.Verb.the-variants as verb
 use Rattle.jobs.specs.declared.read.Row.{Row}

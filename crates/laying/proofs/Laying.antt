@@ -76,6 +76,10 @@ hex-end out out₀ bytes at to i count h k e =
 pub front : (xs : List ℕ) (n : ℕ) → take (n - 0) (drop 0 xs) ≡ take n xs
 front xs n = let p : n - 0 ≡ n = omega arith in ap (λ (k : ℕ). take k xs) p
 
+-- what is said of it
+pub by-front : {A : Type 0} (f : List ℕ → A) (xs : List ℕ) (n : ℕ) (x : A) → x ≡ f (take (n - 0) (drop 0 xs)) → x ≡ f (take n xs)
+by-front f xs n x e = e ∙ ap f (front xs n)
+
 -- a text that the library copied to a part of the buffer as long as it is
 copied : (s part m : List ℕ) → length m ≤ length s → part ≡ take (length s) s ++ drop (length s) m → part ≡ s
 copied s part m h e = e ∙ ap₂ (λ (x y : List ℕ). x ++ y) (take-length s) (drop-of-length-le m h) ∙ append-nil s

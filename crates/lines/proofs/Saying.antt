@@ -9,11 +9,10 @@ use Rattle.words.specs.Pack.{packedOf, readable}
 use Rattle.words.specs.Word.{wordEnd, firstOf}
 use Rattle.words.specs.Args.{Said, saidIn, kindsOf, roomFor, GivenFits}
 use Rattle.words.specs.declared.args.Given.{Given}
+use Rattle.words.proofs.Whole.{by-first}
 use Rattle.words.proofs.Arguing.{looked-up}
 use Rattle.words.proofs.Rows.{rowAt, Others, known-in, unknown-in, each-row, _and_}
-use Rattle.laying.proofs.Laying.{front}
 use Rattle.lines.specs.Said.{commands, noCommand, rowOf, verbOf, saidOf, Fits, AskedFits}
-use Rattle.lines.specs.declared.read.Verb.{Verb}
 use Rattle.lines.specs.declared.read.Row.{Row}
 
 -- ---- the table
@@ -53,7 +52,7 @@ row-fits =
 
 module _ (w : List ℕ) (end : ℕ) (row : Row) (g : Given) (e : end ≡ 0 + wordEnd (drop 0 w)) (r : row ≡ rowOf (take (end - 0) (drop 0 w))) where
   row-is : row ≡ rowOf (firstOf w)
-  row-is = let p : end - 0 ≡ wordEnd w = omega (arith, e) in r ∙ ap (λ (k : ℕ). rowOf (take k w)) p
+  row-is = by-first rowOf w end row e r
 
   pub verb-told : row .0 ≡ verbOf w
   verb-told = ap (λ (x : Row). x .0) row-is
@@ -68,11 +67,3 @@ module _ (w : List ℕ) (end : ℕ) (row : Row) (g : Given) (e : end ≡ 0 + wor
         numbers = looked-up (row .1) (g .count) (g .numbers) (f .numbers);
         verb = subst⁻¹ (λ (x : Row). GivenFits (x .1) g → Fits (x .0) g) r (row-fits (take (end - 0) (drop 0 w)) g) f;
       }
-
--- ---- the front of a buffer that a line is
-
-pub verb-front : (line : List ℕ) (n : ℕ) (v : Verb) → v ≡ verbOf (take (n - 0) (drop 0 line)) → v ≡ verbOf (take n line)
-verb-front line n v e = e ∙ ap verbOf (front line n)
-
-pub said-front : (line : List ℕ) (n : ℕ) (s : Said) → s ≡ saidOf (take (n - 0) (drop 0 line)) → s ≡ saidOf (take n line)
-said-front line n s e = e ∙ ap saidOf (front line n)

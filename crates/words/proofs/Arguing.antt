@@ -21,6 +21,7 @@ use Rattle.words.specs.declared.args.Shape.{Shape}
 use Rattle.words.specs.declared.args.Verdict.{Verdict}
 use Rattle.words.specs.declared.args.Verdict.the-variants as verdict
 use Rattle.words.specs.declared.args.Given.{Given}
+use Rattle.words.proofs.Whole.{too-long}
 
 -- ---- one argument
 
@@ -281,8 +282,7 @@ module _ (s : Shape) (text : List ℕ) (r : Given) (xs : List ℕ) where
 
   module _ (longest : ℕ) where
     pub long-said : r .verdict ≡ verdict.Long → longest < length text → saidBy r xs ≡ saidIn longest s text
-    unfolding saidIn
-    long-said e h = judged-as verdict.Long (saidIn longest s text) e (simp (lt-ltb longest (length text) h))
+    long-said e h = judged-as verdict.Long (saidIn longest s text) e (sym (too-long longest s text h))
 
     pub unknown-said : r .verdict ≡ verdict.Unknown → length text ≤ longest → 3 < s .0 → saidBy r xs ≡ saidIn longest s text
     unfolding saidIn

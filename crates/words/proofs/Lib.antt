@@ -1,4 +1,5 @@
 pub mod Reading
 pub mod Packing
+pub mod Whole
 pub mod Arguing
 pub mod Rows

@@ -1,18 +1,20 @@
 -- Laws of what the workshop program does with a line. Assumes nothing.
 use Prim.Native.Nat.{ℕ, _-_, _<_, _≤_}
-use mathlib.Core.Path.{_≡_, refl, sym, ap, ap₂, subst⁻¹, _∙_}
-use mathlib.Core.Bool.{Bool, true, false, cond}
+use mathlib.Core.Path.{_≡_, refl, sym, ap, _∙_}
+use mathlib.Core.Bool.{Bool, true, false}
 use mathlib.Core.List.{List}
 use native.Mathlib.Omega.{arith}
 use lib.ListN.{length, take, drop, getD}
-use borrow.Author.Tests.{lt-ltb, eq-eqb, ne-eqb}
+use borrow.Author.Tests.{eq-eqb, ne-eqb}
 use Rattle.screen.specs.Screen.{seen, answerOf}
 use Rattle.screen.specs.declared.call.ScreenAnswer.{ScreenAnswer}
 use Rattle.words.specs.declared.args.Verdict.{Verdict}
 use Rattle.words.specs.declared.args.Verdict.the-variants as verdict
-use Rattle.words.specs.Args.{given, judged, saidBy, saidIn, long, Said}
+use Rattle.words.specs.Word.{firstOf}
+use Rattle.words.specs.Args.{Said, given, judged, saidBy}
+use Rattle.words.proofs.Whole.{too-long}
 use Rattle.laying.specs.Parts.{lineText, Line}
-use Rattle.laying.proofs.Laying.{front}
+use Rattle.laying.proofs.Laying.{by-front}
 use Rattle.input.specs.Lines.{unended, isSkipped, answerTo}
 use Rattle.input.specs.Running.{LongAlike}
 use Rattle.jobs.specs.declared.read.Verb.{Verb}
@@ -20,7 +22,7 @@ use Rattle.jobs.specs.declared.read.Verb.the-variants as verb
 use Rattle.jobs.specs.declared.read.Asked.{Asked}
 use Rattle.jobs.specs.declared.write.Answer.{Answer}
 use Rattle.jobs.specs.declared.write.Answer.the-variants as answer
-use Rattle.jobs.specs.Said.{verbOf, saidOf, AskedFits}
+use Rattle.jobs.specs.Said.{rowOf, verbOf, saidOf, AskedFits}
 use Rattle.jobs.specs.Told.{partsOf, outRoom}
 use Rattle.workshop.specs.Worked.{verdictTold, screenTold, worked, answered, program}
 use Rattle.workshop.specs.Running.{Answers}
@@ -51,7 +53,7 @@ module _ (said : ScreenAnswer) where
 
   pub looked : (xs : List ℕ) (n present : ℕ) (r : Answer) → said ≡ answerOf (seen (take (n - 0) (drop 0 xs)) present) → r ≡ screenTold said
       → r ≡ screenTold (answerOf (seen (take n xs) present))
-  looked xs n present r e h = h ∙ ap screenTold (e ∙ ap (λ (l : List ℕ). answerOf (seen l present)) (front xs n))
+  looked xs n present r e h = h ∙ ap screenTold (by-front (λ (l : List ℕ). answerOf (seen l present)) xs n said e)
 
 -- ---- lines
 
@@ -64,7 +66,7 @@ module _ (asked : Asked) (sent : List ℕ) (r : Answer) where
   abbrev numbers : List ℕ
   numbers = asked .given .numbers
 
-  pub judged-by : (k : Verdict) → asked .given .verdict ≡ k
+  judged-by : (k : Verdict) → asked .given .verdict ≡ k
       → r ≡ answered (asked .verb) (judged k (given (take (asked .given .count) numbers) (take (asked .given .end) sent)))
       → r ≡ answered (asked .verb) (saidBy (asked .given) sent)
   judged-by k e h =
@@ -97,12 +99,8 @@ module _ (line w out : List ℕ) (b : Bool) (u : w ≡ unended line) (e : b ≡ 
 
 -- ---- lines that are longer than any command
 
-said-long : (l : List ℕ) → 18597 < length l → saidOf l ≡ long
-unfolding saidIn
-said-long l h = rw (lt-ltb 18597 (length l) h)
-
 answer-long : (l : List ℕ) → 18597 < length l → lineText (partsOf (answered (verbOf l) (saidOf l))) ≡ lineText (partsOf answer.TooLong)
-answer-long l h = ap (λ (s : Said). lineText (partsOf (answered (verbOf l) s))) (said-long l h)
+answer-long l h = ap (λ (s : Said). lineText (partsOf (answered (verbOf l) s))) (too-long 18597 (rowOf (firstOf l) .1) l h)
 
 pub long-alike : LongAlike program
 unfolding program

@@ -1,6 +1,7 @@
 -- `jobs::read::asked_of` meets its contract. Assumes nothing.
 use borrow.Author.Needs.{needs}
-use Rattle.jobs.proofs.Saying.{verb-front, said-front}
+use Rattle.laying.proofs.Laying.{by-front}
+use Rattle.jobs.specs.Said.{verbOf, saidOf}
 use Rattle.jobs.proofs.read.asked_of.Statement.{statement}
 use Rattle.jobs.proofs.read.asked_of.Tie as tie
 
@@ -12,4 +13,4 @@ asked-of-spec =
     (λ c. search needs)
     (λ c. search needs)
     (λ c κs. search needs)
-    (λ c. (search needs, (search verb-front, search said-front))))
+    (λ c. (search needs, (search (by-front verbOf), search (by-front saidOf)))))

@@ -1,6 +1,6 @@
 -- `workshop::work::answer_to` meets its contract. Assumes nothing.
 use borrow.Author.Needs.{needs}
-use Rattle.workshop.proofs.Working.{judged-by, worked-on}
+use Rattle.workshop.proofs.Working.{worked-on}
 use Rattle.workshop.proofs.work.answer_to.Statement.{statement}
 use Rattle.workshop.proofs.work.answer_to.Tie as tie
 

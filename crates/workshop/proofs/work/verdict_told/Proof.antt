@@ -1,5 +1,4 @@
 -- `workshop::work::verdict_told` meets its contract. Assumes nothing.
-use borrow.Author.Needs.{needs}
 use Rattle.workshop.proofs.Working.{told-live, told-old, told-ahead}
 use Rattle.workshop.proofs.work.verdict_told.Statement.{statement}
 use Rattle.workshop.proofs.work.verdict_told.Tie as tie
