@@ -31,7 +31,7 @@ module _ (n : ℕ) (img : List ℕ) (f : Fits n img) where
   unfolding sizeOf
   sized = ap sizeOf (f .whole) ∙ by-size (λ (k : ℕ). sizeOf (4 * k + 4) ≡ Pages k) refl refl refl (f .size)
 
-  seen-there : (present : ℕ) → seen img present ≡ foundSeen (walk (userBytes n img)) present
+  pub seen-there : (present : ℕ) → seen img present ≡ foundSeen (walk (userBytes n img)) present
   unfolding seen
   seen-there present = rw sized
 
