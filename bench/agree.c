@@ -1,4 +1,4 @@
-/* Holds the proved tag against the plain one on mixed frames, bus events and looks of the screen. */
+/* Holds the proved tag against the plain one on mixed frames, bus events, looks of the screen and readings that are written. */
 #include "host.h"
 #include "plain.h"
 #include "tags.h"
@@ -126,6 +126,13 @@ static bool same_screen(void) {
     return a.refused == b.refused && a.verdict == b.verdict && a.watts == b.watts && a.second == b.second;
 }
 
+/* Into the user pages, or so much of them. */
+static bool same_reading(void) {
+    size_t room = corridor_pages(proved.length) ? dice(40) : 0;
+    uint32_t second = (uint32_t)dice(65536) << dice(17), watts = (uint32_t)dice(65536) << dice(17);
+    return proved.write_reading(proved.image + 16, room, second, watts) == plain.write_reading(plain.image + 16, room, second, watts);
+}
+
 static uint8_t bus_byte(void) {
     switch (proved.bus.phase) {
     case CORRIDOR_AWAITS_DEVICE: return dice(8) ? 0xA0 + (uint8_t)dice(2) : dice_byte();
@@ -144,6 +151,8 @@ static bool same_step(void) {
     }
     if (dice(20) == 0)
         return same_screen();
+    if (dice(40) == 0)
+        return same_reading();
     if (dice(3) == 0)
         return same_event(dice(4) ? CORRIDOR_BYTE_SENT : (uint8_t)dice(6), bus_byte());
     struct frame f = damaged(dice_frame());
@@ -169,6 +178,6 @@ int program(void) {
         return 1;
     }
     print_number(STEPS);
-    print(" mixed frames, bus events and looks of the screen: both tags give the same answers, records, images and buffers\n");
+    print(" mixed frames, bus events, looks of the screen and readings: both tags give the same answers, records, images and buffers\n");
     return 0;
 }

@@ -37,6 +37,8 @@ static void run_bus_read(struct tag *t) {
 
 static void run_screen(struct tag *t) { t->screen(t->image, t->length, 26000); }
 
+static void run_reading(struct tag *t) { t->write_reading(t->image + 16, 14, 25800, 42); }
+
 static void lay_reading(struct tag *t) {
     static const uint8_t reading[] = {0x03, 0x0B, 0xD5, 0x00, 0x08, 0xC8, 0x64, 0x00, 0x00, 0x2A, 0x00, 0x00, 0x00, 0xFE};
     for (size_t i = 0; i < sizeof reading; i++)
@@ -76,6 +78,7 @@ void list_kinds(struct kind kinds[KINDS]) {
         {"bus read of a whole window   ", run_bus_read, 500, {.length = 0}, 0, false},
         {"screen of a reading          ", run_screen, 200000, {.length = 0}, 0, true},
         {"screen of empty user pages   ", run_screen, 10000, {.length = 0}, 0, false},
+        {"a reading written            ", run_reading, 200000, {.length = 0}, 0, false},
     };
     for (int k = 0; k < KINDS; k++)
         kinds[k] = list[k];

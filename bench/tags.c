@@ -2,8 +2,10 @@
 #include "tags.h"
 #include "plain.h"
 
-struct tag proved = {.frame = corridor_frame, .bus_event = corridor_bus_event, .field_loss = corridor_field_loss, .screen = corridor_screen};
-struct tag plain = {.frame = plain_frame, .bus_event = plain_bus_event, .field_loss = plain_field_loss, .screen = plain_screen};
+struct tag proved = {.frame = corridor_frame, .bus_event = corridor_bus_event, .field_loss = corridor_field_loss, .screen = corridor_screen,
+                     .write_reading = corridor_write_reading};
+struct tag plain = {.frame = plain_frame, .bus_event = plain_bus_event, .field_loss = plain_field_loss, .screen = plain_screen,
+                    .write_reading = plain_write_reading};
 
 static void append_crc(struct frame *f) {
     unsigned crc = 0x6363;

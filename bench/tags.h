@@ -9,6 +9,7 @@ struct tag {
     corridor_bus_answer (*bus_event)(corridor_bus_record *, uint8_t *, size_t, uint8_t, uint8_t);
     corridor_tag_record (*field_loss)(corridor_tag_record);
     corridor_screen_answer (*screen)(const uint8_t *, size_t, uint32_t);
+    uint8_t (*write_reading)(uint8_t *, size_t, uint32_t, uint32_t);
     uint8_t image[CORRIDOR_IMAGE_231];
     size_t length;
     uint8_t answer[CORRIDOR_ANSWER_ROOM];

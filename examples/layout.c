@@ -155,10 +155,28 @@ static void check_screen_answer(void) {
     expect("corridor_screen_answer.refused", corridor_screen(image, 183, SECOND).refused, CORRIDOR_REFUSED_IMAGE);
 }
 
+/* Each byte of both numbers is told from the others by its value; of the area, what is behind the reading stays, and at a refusal all of it. */
+static void check_write_reading(void) {
+    static const uint8_t due[CORRIDOR_READING_BYTES] = {0x03, 0x0B, 0xD5, 0x00, 0x08, 0x11, 0x22, 0x33, 0x44, 0x55, 0x66, 0x77, 0x88, 0xFE};
+    uint8_t area[CORRIDOR_READING_BYTES + 2];
+    paint(area, sizeof area, 0xEE);
+    expect("corridor_write_reading, refused", corridor_write_reading(area, CORRIDOR_READING_BYTES - 1, 0x44332211, 0x88776655), CORRIDOR_REFUSED_AREA);
+    expect("the area of a refused corridor_write_reading", written(area, sizeof area, 0xEE), 0);
+    expect("corridor_write_reading", corridor_write_reading(area, CORRIDOR_READING_BYTES, 0x44332211, 0x88776655), CORRIDOR_TAKEN);
+    for (size_t i = 0; i < sizeof due; i++)
+        expect("a byte of corridor_write_reading", area[i], due[i]);
+    expect("the area behind corridor_write_reading", written(area, sizeof area, 0xEE), CORRIDOR_READING_BYTES);
+    paint(area, sizeof area, 0xEE);
+    corridor_write_reading(area, sizeof area, 0x44332211, 0x88776655);
+    expect("the area behind corridor_write_reading, lent with it", written(area, sizeof area, 0xEE), CORRIDOR_READING_BYTES);
+    expect("CORRIDOR_READING_ADDRESS", CORRIDOR_READING_ADDRESS, CORRIDOR_WINDOW + 4 * 0x04);
+}
+
 int program(void) {
     check_tag_record();
     check_bus_record();
     check_screen_answer();
+    check_write_reading();
     expect("corridor_pages", corridor_pages(CORRIDOR_IMAGE_45) * 1000000 + corridor_pages(CORRIDOR_IMAGE_135) * 1000 + corridor_pages(CORRIDOR_IMAGE_231), 45135231);
     expect("corridor_pages of another length", corridor_pages(185), 0);
     expect("corridor_answer_room", corridor_answer_room(), CORRIDOR_ANSWER_ROOM);

@@ -3,7 +3,7 @@
  *
  * The tag has two sides that share one image: radio frames after demodulation, and two-wire events after the pin driver. A firmware holds
  * the image and two records, and hands them to every call; the tag itself keeps nothing. A board with a screen asks the same image what to
- * show of the reading that its logger wrote (corridor_screen).
+ * show of the reading that its logger wrote (corridor_screen); a logger makes the bytes of a reading (corridor_write_reading).
  *
  *     static uint8_t image[CORRIDOR_IMAGE_45] = CORRIDOR_FACTORY_45;    the pages, and a tail of four bytes
  *     static uint8_t answer[CORRIDOR_ANSWER_ROOM];                      where answers are put
@@ -105,6 +105,10 @@ extern "C" {
 /* The address of the image's first byte on the two wires. */
 #define CORRIDOR_WINDOW 0x4000
 
+/* How many bytes a reading has, and where a logger writes it on the two wires: at page 04h. */
+#define CORRIDOR_READING_BYTES 14
+#define CORRIDOR_READING_ADDRESS 0x4010
+
 /* ---- numbers */
 
 /* Why a call was refused. */
@@ -116,7 +120,8 @@ enum {
     CORRIDOR_REFUSED_EVENT = 4,       /* an event that is not one of the five */
     CORRIDOR_REFUSED_NO_MESSAGE = 20, /* the user pages have no block of type 03h */
     CORRIDOR_REFUSED_PASSES = 21,     /* a block's length, or the bytes that it counts, passes the user pages */
-    CORRIDOR_REFUSED_NO_READING = 22  /* the first block of type 03h is not a reading */
+    CORRIDOR_REFUSED_NO_READING = 22, /* the first block of type 03h is not a reading */
+    CORRIDOR_REFUSED_AREA = 23        /* the area has under 14 bytes */
 };
 
 /* corridor_tag_record.state */
@@ -238,8 +243,8 @@ corridor_bus_answer corridor_bus_event(corridor_bus_record *bus, uint8_t *image,
 /*
  * What a screen is to show of the image's reading at the present second. The image is only looked at, and nothing is kept from call to call.
  *
- * A reading is a message block of eleven bytes. A logger writes these 14 bytes at page 04h, which is 4010h on the two wires; they lie within
- * one 64-byte page, so that one stop stores them all:
+ * A reading is a message block of eleven bytes. A logger writes these 14 bytes (corridor_write_reading makes them) at page 04h, which is
+ * 4010h on the two wires; they lie within one 64-byte page, so that one stop stores them all:
  *
  *     03           the type of the block: a message
  *     0B           its length: eleven bytes follow
@@ -265,6 +270,27 @@ corridor_bus_answer corridor_bus_event(corridor_bus_record *bus, uint8_t *image,
  * a reading. On the radio a lock or the password keeps others from them, and binds no logger on the wires.
  */
 corridor_screen_answer corridor_screen(const uint8_t *image, size_t image_length, uint32_t present);
+
+/* ---- the logger */
+
+/*
+ * Writes a reading of this second and these watts into an area of user pages: the 14 bytes of the table above, at the area's start. The rest of the
+ * area stays as it is. Gives CORRIDOR_TAKEN; or CORRIDOR_REFUSED_AREA, 23, for an area of under 14 bytes, and then nothing is written.
+ *
+ * A logger needs no more of an area than the 14 bytes that it sends over the two wires:
+ *
+ *     uint8_t reading[CORRIDOR_READING_BYTES];
+ *     corridor_write_reading(reading, sizeof reading, second, watts);
+ *     start, A0h, 40h, 10h, the bytes of `reading`, stop
+ *
+ * A board that makes readings itself may lend the user pages of its image, image + 16 and the bytes up to the dynamic locks. Either way the board's
+ * screen then reads the same second and the same watts, whatever the image held before: live, old or ahead by the reading's age alone. Two
+ * readings have the same bytes only if they have the same second and the same watts.
+ *
+ * The bytes stand in the area in no order that a screen could rely on while they are written: a call that reads them waits until this one has
+ * returned.
+ */
+uint8_t corridor_write_reading(uint8_t *area, size_t area_length, uint32_t second, uint32_t watts);
 
 /* ---- what there is to know of an image */
 

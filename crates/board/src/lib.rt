@@ -15,6 +15,7 @@ ghost use Rattle.tag.specs.Record.{recordOf, fieldLoss};
 ghost use Rattle.radio.specs.Call.{called, Met};
 ghost use Rattle.two_wire.specs.Record.{atRest};
 ghost use Rattle.screen.specs.Screen.{seen, answerOf};
+ghost use Rattle.logger.specs.Writer.{written, Wrote};
 ghost use Rattle.board.specs.Board.{pagesOf};
 
 // The record to begin with.
@@ -62,6 +63,14 @@ pub extern "C" fn corridor_screen(image: &[u8], present: u32) -> ScreenAnswer
     ensures { λ r. ⌜ r ≡ answerOf (seen (now (image .entry)) present) ⌝ }
 {
     screen::screen(image, present)
+}
+
+// A reading is written into a user area. It answers 0, or the number of the refusal.
+#[no_mangle]
+pub extern "C" fn corridor_write_reading(area: &mut [u8], second: u32, watts: u32) -> u8
+    ensures { λ r. ⌜ Wrote (written second watts (now (area .entry))) r (now (area .exit)) ⌝ }
+{
+    logger::write_reading(area, second, watts)
 }
 
 // How many pages an image of so many bytes has.

@@ -3,3 +3,4 @@ pub mod Computes
 pub mod Examples
 pub mod Records
 pub mod Caught
+pub mod Logged

@@ -27,7 +27,7 @@ ages = record {
 -- ---- the user pages
 
 module _ (n : ℕ) (img : List ℕ) (f : Fits n img) where
-  sized : sizeOf (length img) ≡ Pages n
+  pub sized : sizeOf (length img) ≡ Pages n
   unfolding sizeOf
   sized = ap sizeOf (f .whole) ∙ by-size (λ (k : ℕ). sizeOf (4 * k + 4) ≡ Pages k) refl refl refl (f .size)
 
