@@ -56,7 +56,7 @@ def met(step, why_not_how):
         return
     if step.error == "no-such-command":
         yield f"error.no-such-command/{why_unknown(word, step.table.arguments)}"
-        yield from also_wrong(rest)
+        yield from also_wrong(rest, most_words(step.table))
     else:
         yield f"error.not-how.of/{word.decode('ascii')}"
         yield f"error.not-how/{why_not_how(word, rest)}"
@@ -104,13 +104,18 @@ def why_unknown(word, commands):
     return "longer-than-a-command" if longer else "unknown-word"
 
 
-def also_wrong(rest):
+def most_words(table):
+    """How many words a command word has behind it at most."""
+    return max(map(len, table.arguments.values()))
+
+
+def also_wrong(rest, most):
     """What would be wrong behind any command word."""
     if b"" in rest:
         yield "error.no-such-command.before/extra-space"
     if odd_byte_in(rest):
         yield "error.no-such-command.before/odd-byte"
-    if len(rest) > 2:
+    if len(rest) > most:
         yield "error.no-such-command.before/too-many-words"
 
 

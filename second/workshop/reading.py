@@ -14,9 +14,12 @@ def second_of(word):
 
 
 def image_of(word):
-    """"HEX is bytes in pairs of hex digits, or `-` for none"; "An IMAGE [...] HEX
-    of at most 1,100 bytes". A word is never empty."""
+    """"HEX is bytes in pairs of hex digits, or `-` for none"; "An IMAGE, an AREA
+    [...] HEX of at most 1,100 bytes". A word is never empty."""
     return b"" if word == b"-" else bytes_in(word, LARGEST_IMAGE)
 
 
-TABLE = Table(LONGEST_LINE, {b"screen": [second_of, image_of], b"help": []}, ())
+watts_of, area_of = second_of, image_of
+
+TABLE = Table(LONGEST_LINE, {b"screen": [second_of, image_of], b"reading": [second_of, watts_of, area_of],
+                             b"help": []}, ())

@@ -151,9 +151,11 @@ class Making:
         self.sources, self.slip = sources, slip
 
     def play(self, line):
-        """None, or what went wrong in words."""
+        """None, or what went wrong in words. It is lines.words that makes lines of a
+        text."""
         modules = self.sources.modules_with(self.slip)
-        if modules["lines.words"].lines_of(self.text) != self.record.lines:
+        words = modules["lines.words"]
+        if self.slip.module == words.__name__ and words.lines_of(self.text) != self.record.lines:
             return b"(reads other lines)"
         self.made = Slipped(self.kind, self.record, modules[self.kind.player_module].Player())
         return None

@@ -10,11 +10,12 @@ import sys
 
 sys.dont_write_bytecode = True
 
+import reading  # noqa: E402
 import screen  # noqa: E402
 from failures import Failed, WrongUse  # noqa: E402
 from program import Ended, NotStarted, Program, build  # noqa: E402
 
-WORDS = {"screen": screen}
+WORDS = {"screen": screen, "reading": reading}
 
 HELP = """Does the workshop's work on images. Without words it plays lines on standard input and output: one line in, one line
 out. The line "help" names the commands; docs/LINES.md says what each does and answers. With --build it only builds the
@@ -22,8 +23,8 @@ program. With a word it works on files:
 
 {words}
 
-./workshop WORD --help says more of a word. The exit status is 0; 1 where a file can't be read, an image is refused or an
-answer could not be written; 2 where a word is wrong or the program is not built."""
+./workshop WORD --help says more of a word. The exit status is 0; 1 where a file can't be read or written, what is in it is
+refused, or an answer could not be written; 2 where a word is wrong or the program is not built."""
 
 
 def usage():

@@ -6,4 +6,4 @@ class WrongUse(Exception):
 
 
 class Failed(Exception):
-    """A file can't be read, or the proved program refuses what is in it: exit status 1."""
+    """A file can't be read or written, or the proved program refuses what is in it: exit status 1."""

@@ -3,7 +3,7 @@ import sys
 
 from failures import Failed
 
-MOST_BYTES = 1100  # an image of more doesn't go into a line of the program
+MOST_BYTES = 1100  # more doesn't go into a line of the program
 
 
 def shown(name):
@@ -21,15 +21,43 @@ def first_bytes(name, count):
         return file.read(count)
 
 
-def image_in(name):
-    """The bytes of a file that is to be an image. Which of them are one, the program says; a longer file isn't."""
+def bytes_in(name, too_long):
+    """The bytes of a file, or why it can't be taken: `too_long` says it of one with more bytes than a line has room for."""
     try:
         data = first_bytes(name, MOST_BYTES + 1)
     except OSError as error:
         raise Failed(f"{shown(name)}: can't be read: {error.strerror}") from None
     if len(data) > MOST_BYTES:
-        raise Failed(f"{shown(name)}: no image: it has more than {MOST_BYTES:,} bytes, and an image has 184, 544 or 928")
+        raise Failed(f"{shown(name)}: {too_long}")
     return data
+
+
+def image_in(name):
+    """The bytes of a file that is to be an image. Which of them are one, the program says; a longer file isn't."""
+    return bytes_in(name, f"no image: it has more than {MOST_BYTES:,} bytes, and an image has 184, 544 or 928")
+
+
+def area_in(name):
+    """The bytes of a file that is to be an area of user pages."""
+    return bytes_in(name, f"no area: it has more than {MOST_BYTES:,} bytes, and the user pages of a board have at most 888")
+
+
+def write_over(name, data):
+    """Puts these bytes over those of a file that has as many."""
+    try:
+        with open(name, "r+b") as file:
+            file.write(data)
+    except OSError as error:
+        raise Failed(f"{shown(name)}: can't be written: {error.strerror}") from None
+
+
+def write_new(name, data):
+    """Makes a file of these bytes."""
+    try:
+        with open(name, "wb") as file:
+            file.write(data)
+    except OSError as error:
+        raise Failed(f"{shown(name)}: can't be written: {error.strerror}") from None
 
 
 def hexed(data):

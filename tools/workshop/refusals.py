@@ -5,6 +5,7 @@ MEANINGS = {
     20: "there is no message (block 03h) in its user pages",
     21: "a block's length, or the bytes that it counts, passes its user pages",
     22: "its first message (block 03h) is not a reading: D5 00 08 and eight bytes are wanted",
+    23: "no room for a reading: it has under 14 bytes",
 }
 
 

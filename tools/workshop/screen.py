@@ -1,11 +1,10 @@
 """./workshop screen: what the corridor screen says of an image."""
 import re
-import time
 
 from failures import Failed, WrongUse
 from files import hexed, image_in, shown
 from refusals import in_words
-from seconds import LAST, number_in, span
+from seconds import LAST, now, number_in, span
 
 USAGE = "screen BOARD.img [SECONDS]"
 ABOUT = "what the corridor screen says of an image"
@@ -72,7 +71,7 @@ def read(words):
     if words[2:]:
         raise WrongUse(f"screen: a word too many: '{words[2]}' (./workshop {USAGE})")
     name, *rest = words
-    present = number_in(rest[0] if rest else str(int(time.time())))
+    present = number_in(rest[0]) if rest else now()
     return name, image_in(name), present
 
 

@@ -1,5 +1,6 @@
-"""Seconds: as they are written, and how long they are."""
+"""Seconds and watts as they are written, and how long seconds are."""
 import re
+import time
 
 from failures import WrongUse
 
@@ -7,11 +8,16 @@ LAST = 2**32 - 1
 MINUTE, HOUR, DAY = 60, 3600, 86400
 
 
-def number_in(word):
-    """The second that a word is, as the program's lines have it: one to ten digits, at most 4294967295."""
+def number_in(word, what="seconds"):
+    """The number of seconds or watts that a word is, as the program's lines have it: one to ten digits, at most 4294967295."""
     if not re.fullmatch("[0-9]{1,10}", word) or int(word) > LAST:
-        raise WrongUse(f"not a number of seconds, from 0 to {LAST}: '{word}'")
+        raise WrongUse(f"not a number of {what}, from 0 to {LAST}: '{word}'")
     return int(word)
+
+
+def now():
+    """The seconds since 1970, UTC."""
+    return int(time.time())
 
 
 def span(count):

@@ -23,15 +23,22 @@ nothing = kind.Nothing
 abbrev pub seconds : Kind
 seconds = kind.Number 10 1 10 4294967295
 
--- "HEX is bytes in pairs of hex digits, or `-` for none"; "An IMAGE .. HEX of at most 1,100 bytes"
+abbrev pub watts : Kind
+watts = seconds
+
+-- "HEX is bytes in pairs of hex digits, or `-` for none"; "An IMAGE, an AREA, .. are HEX of at most 1,100 bytes"
 abbrev pub image : Kind
 image = kind.Dashed 1100
+
+abbrev pub area : Kind
+area = image
 
 -- ---- the commands: a word, its verb, how many of its arguments must be there, and the arguments
 
 unfoldable pub commands : List (Named Row)
 commands =
     asks (text "screen") (verb.Screen, (2, seconds, image, nothing))
+    ∷ asks (text "reading") (verb.Reading, (3, seconds, watts, area))
     ∷ asks (text "help") (verb.Help, (0, nothing, nothing, nothing))
     ∷ []
 

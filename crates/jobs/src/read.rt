@@ -19,6 +19,7 @@ const LONGEST: usize = 18597;
 
 pub enum Verb {
     Screen,
+    Reading,
     Help,
 }
 
@@ -34,6 +35,8 @@ pub struct Asked {
 // The words as numbers: the first letter is the lowest byte.
 const SCREEN: u64 = 0x1_6e_65_65_72_63_73;
 
+const READING: u64 = 0x1_67_6e_69_64_61_65_72;
+
 const HELP: u64 = 0x1_70_6c_65_68;
 
 // The arguments that the lines have.
@@ -46,7 +49,11 @@ const SECONDS: Kind = Kind::Number {
     most: 4294967295,
 };
 
+const WATTS: Kind = SECONDS;
+
 const IMAGE: Kind = Kind::Dashed(1100);
+
+const AREA: Kind = IMAGE;
 
 // The row of a word. Where it is no command the shape says so, and the verb means nothing.
 fn row_of(word: &[u8]) -> Row
@@ -56,6 +63,7 @@ fn row_of(word: &[u8]) -> Row
     let k = packed(word);
     match k {
         SCREEN => Row(Verb::Screen, Shape(2, SECONDS, IMAGE, NONE)),
+        READING => Row(Verb::Reading, Shape(3, SECONDS, WATTS, AREA)),
         HELP => Row(Verb::Help, Shape(0, NONE, NONE, NONE)),
         _ => Row(Verb::Help, Shape(4, NONE, NONE, NONE)),
     }

@@ -98,7 +98,7 @@ fn run(bytes: &mut Sent, out: &mut Out, line: &mut Line, chunk: &mut Chunk, most
 
 fn main() {
     let mut bytes = [0u8; 1100];
-    let mut out = [0u8; 256];
+    let mut out = [0u8; 2206];
     let mut line = [0u8; ROOM];
     let mut chunk = [0u8; 4096];
     let ended = run(&mut bytes, &mut out, &mut line, &mut chunk, u64::MAX);

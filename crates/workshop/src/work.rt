@@ -9,21 +9,26 @@ use jobs::read::asked_of;
 use jobs::write::Answer;
 use jobs::write::Out;
 use jobs::write::line_of;
+use logger::write_reading;
 use screen::ScreenAnswer;
 use screen::screen;
 use words::args::Verdict;
 ghost use mathlib.Core.Path.{_≡_};
-ghost use Prim.Native.Nat.{_≤_};
+ghost use mathlib.Core.List.{List};
+ghost use Prim.Native.Nat.{ℕ, _≤_};
 ghost use lib.ListN.{length, take, getD};
 ghost use Rattle.screen.specs.Screen.{seen, answerOf};
+ghost use Rattle.logger.specs.Writer.{written};
 ghost use Rattle.words.specs.Args.{saidBy};
 ghost use Rattle.input.specs.Reading.{lineRoom};
-ghost use Rattle.jobs.specs.Said.{AskedFits};
-ghost use Rattle.workshop.specs.Worked.{verdictTold, screenTold, worked, answered};
+ghost use Rattle.jobs.specs.Said.{sentRoom, AskedFits};
+ghost use Rattle.jobs.specs.Told.{tells, AnswerFits};
+ghost use Rattle.workshop.specs.Worked.{verdictTold, screenTold, writtenTold, worked, answered};
 ghost use Rattle.workshop.specs.Running.{Answers};
 
 fn verdict_told(verdict: u8, watts: u32) -> Answer
-    ensures { λ r. ⌜ r ≡ verdictTold verdict watts ⌝ }
+    ensures { λ r. ⌜ AnswerFits r ⌝ }
+    ensures { λ r. ⌜ ((xs : List ℕ) → tells r xs ≡ verdictTold verdict watts) ⌝ }
 {
     if verdict == 1 {
         return Answer::Live(watts);
@@ -36,7 +41,8 @@ fn verdict_told(verdict: u8, watts: u32) -> Answer
 
 // What the screen says.
 fn screen_told(said: ScreenAnswer) -> Answer
-    ensures { λ r. ⌜ r ≡ screenTold said ⌝ }
+    ensures { λ r. ⌜ AnswerFits r ⌝ }
+    ensures { λ r. ⌜ ((xs : List ℕ) → tells r xs ≡ screenTold said) ⌝ }
 {
     if said.refused == 0 {
         return verdict_told(said.verdict, said.watts);
@@ -47,30 +53,47 @@ fn screen_told(said: ScreenAnswer) -> Answer
 // What the screen says of the image that the first `count` bytes are.
 fn look(bytes: &[u8], count: usize, present: u32) -> Answer
     requires { ⌜ count ≤ length (now bytes) ⌝ }
-    ensures { λ r. ⌜ r ≡ screenTold (answerOf (seen (take count (now (bytes .entry))) present)) ⌝ }
+    ensures { λ r. ⌜ AnswerFits r ⌝ }
+    ensures { λ r. ⌜ ((xs : List ℕ) → tells r xs ≡ screenTold (answerOf (seen (take count (now (bytes .entry))) present))) ⌝ }
 {
     let said = screen(&bytes[0..count], present);
     screen_told(said)
 }
 
+// Writes a reading into the area that the first `count` bytes are.
+fn put_reading(bytes: &mut [u8], count: usize, second: u32, watts: u32) -> Answer
+    requires { ⌜ (count ≤ length (now bytes)) × (count ≤ sentRoom) ⌝ }
+    ensures { λ r. ⌜ AnswerFits r ⌝ }
+    ensures { λ r. ⌜ tells r (now (bytes .exit)) ≡ writtenTold (written second watts (take count (now (bytes .entry)))) ⌝ }
+{
+    let refused = write_reading(&mut bytes[0..count], second, watts);
+    if refused == 0 {
+        return Answer::Area(count);
+    }
+    Answer::Refused(refused)
+}
+
 // Carries out a command that is written as it is to be.
-fn work(bytes: &Sent, asked: Asked) -> Answer
+fn work(bytes: &mut Sent, asked: Asked) -> Answer
     requires { ⌜ AskedFits asked ⌝ }
-    ensures { λ r. ⌜ r ≡ worked (asked .verb) (getD (asked .given .numbers) 0 0) (take (asked .given .end) (now (bytes .entry))) ⌝ }
+    ensures { λ r. ⌜ AnswerFits r ⌝ }
+    ensures { λ r. ⌜ tells r (now (bytes .exit)) ≡ worked (asked .verb) (getD (asked .given .numbers) 0 0) (getD (asked .given .numbers) 1 0) (take (asked .given .end) (now (bytes .entry))) ⌝ }
 {
     let verb = asked.verb;
     let given = asked.given;
     let numbers = given.numbers;
     match verb {
         Verb::Screen => look(bytes, given.end, numbers[0]),
+        Verb::Reading => put_reading(bytes, given.end, numbers[0], numbers[1]),
         Verb::Help => Answer::Help,
     }
 }
 
 // Carries out what a line asks for.
-fn answer_to(bytes: &Sent, asked: Asked) -> Answer
+fn answer_to(bytes: &mut Sent, asked: Asked) -> Answer
     requires { ⌜ AskedFits asked ⌝ }
-    ensures { λ r. ⌜ r ≡ answered (asked .verb) (saidBy (asked .given) (now (bytes .entry))) ⌝ }
+    ensures { λ r. ⌜ AnswerFits r ⌝ }
+    ensures { λ r. ⌜ tells r (now (bytes .exit)) ≡ answered (asked .verb) (saidBy (asked .given) (now (bytes .entry))) ⌝ }
 {
     let given = asked.given;
     let verdict = given.verdict;
@@ -94,5 +117,5 @@ pub fn respond(bytes: &mut Sent, out: &mut Out, line: &Line, len: usize) -> usiz
     }
     let asked = asked_of(line, end, bytes);
     let told = answer_to(bytes, asked);
-    line_of(out, told)
+    line_of(out, told, bytes)
 }

@@ -3,27 +3,29 @@
 from rules import errors
 from rules.errors import longer_than, wrong_hex, wrong_number, wrong_words
 from rules.naming import each
+from rules.workshop.reading_lines import LONGEST_LINE as LONGEST_GOOD_LINE
 from workshop.reading import LARGEST_IMAGE, LARGEST_SECOND, TABLE
 
-CORRIDOR_WORDS = [b"image", b"buffer", b"field", b"frame", b"show", b"tag", b"bus"]
+CORRIDOR_WORDS = [b"image", b"buffer", b"field", b"frame", b"show", b"tag", b"bus", b"read"]
+
+# What the last word is called.
+BYTES_BEHIND = {b"screen": "image", b"reading": "area"}
 
 RULES = {
     **errors.rules_of(TABLE),
     **each(f"error.at-{TABLE.longest}-and-return", ["no-such-command", "not-how"],
            f"the longest line is [...] {TABLE.longest:,} characters: the carriage return is none ({{}})"),
     "error.no-such-command/of-the-corridor": "any other line than those below: a command of `corridor`",
-    "error.not-how/longer-than-any-screen-line": "where what follows it is wrong, up to 18,597 characters",
+    "error.not-how/longer-than-any-good-line": "where what follows it is wrong, up to 18,597 characters",
     "error.not-how/dash-for-a-number": "SECONDS [...] decimal: `-` is no number",
     "error.not-how/dash-and-more": "`-` for none: alone",
-    "error.not-how/words-exchanged": "`screen SECONDS IMAGE`: in this order",
+    "error.not-how/words-exchanged": "`screen SECONDS IMAGE`, `reading SECONDS WATTS AREA`: in this order",
     "error.not-how/4294967296": "at most 4294967295",
     "error.not-how/number-too-large": "at most 4294967295",
     "error.not-how/number-too-long": "of one to ten digits, even of zeros",
-    "error.not-how/image-1101": "An IMAGE [...] of at most 1,100 bytes",
-    "error.not-how/image-too-long": "An IMAGE [...] of at most 1,100 bytes",
+    **each("error.not-how", ["image-1101", "image-too-long"], "An IMAGE [...] of at most 1,100 bytes ({})"),
+    **each("error.not-how", ["area-1101", "area-too-long"], "an AREA [...] of at most 1,100 bytes ({})"),
 }
-
-LONGEST_SCREEN_LINE = len("screen ") + 10 + 1 + 2 * LARGEST_IMAGE
 
 
 def met(step):
@@ -33,8 +35,8 @@ def met(step):
     if step.error == "too-long":
         yield f"error.too-long.before/{errors.before_what(step)}"
         return
-    if step.error == "not-how" and len(step.text) > LONGEST_SCREEN_LINE:
-        yield "error.not-how/longer-than-any-screen-line"
+    if step.error == "not-how" and len(step.text) > LONGEST_GOOD_LINE:
+        yield "error.not-how/longer-than-any-good-line"
     if step.text.split(b" ")[0] in CORRIDOR_WORDS:
         yield "error.no-such-command/of-the-corridor"
     if len(step.text) == TABLE.longest and step.line != step.text:
@@ -43,18 +45,26 @@ def met(step):
 
 def why_not_how(word, rest):
     """What is wrong behind a command word; of several faults, one."""
-    return wrong_words(word, rest, TABLE) or wrong_arguments(*[part.decode("ascii") for part in rest])
+    return wrong_words(word, rest, TABLE) or wrong_arguments(word, [part.decode("ascii") for part in rest])
 
 
-def wrong_arguments(seconds, image):
-    """The first fault in the words behind `screen`."""
-    if seconds == "-":
+def wrong_arguments(word, words):
+    """The first fault in the words behind `screen` or `reading`: numbers, and bytes
+    behind them."""
+    *numbers, data = words
+    if "-" in numbers:
         return "dash-for-a-number"
-    if wrong_hex(seconds) is None and len(seconds) > 20 and not wrong_number(image, 10, LARGEST_SECOND):
+    if any(is_bytes(number) for number in numbers) and not wrong_number(data, 10, LARGEST_SECOND):
         return "words-exchanged"
-    fault = wrong_number(seconds, 10, LARGEST_SECOND)
-    if fault:
-        return fault
-    if "-" in image:
+    for number in numbers:
+        fault = wrong_number(number, 10, LARGEST_SECOND)
+        if fault:
+            return fault
+    if "-" in data:
         return "dash-and-more"
-    return wrong_hex(image) or longer_than(LARGEST_IMAGE, image, "image-1101", "image-too-long")
+    name = BYTES_BEHIND[word]
+    return wrong_hex(data) or longer_than(LARGEST_IMAGE, data, f"{name}-1101", f"{name}-too-long")
+
+
+def is_bytes(word):
+    return wrong_hex(word) is None and len(word) > 20

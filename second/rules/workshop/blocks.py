@@ -10,6 +10,7 @@ from tag.layout import LAYOUTS
 BEGINNING = bytes([0xD5, 0x00, 0x08])
 READING_BLOCK = bytes([0x03, 0x0B]) + BEGINNING
 READING_LENGTH = 11
+WRITTEN_LENGTH = 14             # of a reading as Q-7 writes it, with FEh behind it
 
 
 class Block(NamedTuple):

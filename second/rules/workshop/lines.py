@@ -5,15 +5,25 @@ from rules.lines import of_hex
 from rules.naming import each
 from workshop.reading import LARGEST_IMAGE, LARGEST_SECOND
 
+
+def number_rules(stem, word):
+    """The rules of how a number is written that is this word of a line."""
+    return {
+        **each(f"{stem}.digits", range(1, 11), word + " [...] decimal, of one to ten digits ({})"),
+        f"{stem}.number/leading-zero": "leading zeros are fine",
+        f"{stem}.number/zeros": "leading zeros are fine: nothing but zeros",
+        f"{stem}.number/ten-digits-of-few":
+            "of one to ten digits, leading zeros are fine: ten of a small number",
+        f"{stem}.number/4294967295": "at most 4294967295",
+    }
+
+
 RULES = {
-    **each("line", ["screen", "screen-without-bytes", "help"], "the table of lines: {}"),
+    **each("line", ["screen", "screen-without-bytes", "reading", "reading-without-bytes", "help"],
+           "the table of lines: {}"),
     **skipped.RULES,
     **each("form.hex", ["lower", "upper", "mixed"], "HEX is bytes in pairs of hex digits, either case in ({})"),
-    **each("form.digits", range(1, 11), "SECONDS [...] decimal, of one to ten digits ({})"),
-    "form.number/leading-zero": "leading zeros are fine",
-    "form.number/zeros": "leading zeros are fine: nothing but zeros",
-    "form.number/ten-digits-of-few": "of one to ten digits, leading zeros are fine: ten of a small number",
-    "form.number/4294967295": "at most 4294967295",
+    **number_rules("form", "SECONDS"),
     "limit/image-1100": "An IMAGE [...] of at most 1,100 bytes",
     **each("answer.digits", range(1, 11), "WATTS are decimal, of one to ten digits ({})"),
 }
@@ -22,24 +32,27 @@ RULES = {
 def met(step):
     if step.word is None:
         return
-    if step.word != "screen":
-        yield f"line/{step.word}"
-        return
+    without_bytes = step.text.endswith(b" -")
+    yield f"line/{step.word}" + ("-without-bytes" if without_bytes else "")
+    if step.word == "screen":
+        yield from of_screen(step)
+
+
+def of_screen(step):
     _, seconds, image = step.text.decode("ascii").split(" ")
-    yield "line/screen" if image != "-" else "line/screen-without-bytes"
     yield from of_hex(image)
-    yield from of_number(seconds)
+    yield from of_number("form", seconds)
     if len(step.image) == LARGEST_IMAGE:
         yield "limit/image-1100"
     if step.refused is None:
         yield f"answer.digits/{len(step.answer.split(b' ')[1])}"
 
 
-def of_number(word):
-    yield f"form.digits/{len(word)}"
+def of_number(stem, word):
+    yield f"{stem}.digits/{len(word)}"
     if len(word) > 1 and word[0] == "0":
-        yield "form.number/leading-zero" if int(word) else "form.number/zeros"
+        yield f"{stem}.number/" + ("leading-zero" if int(word) else "zeros")
     if len(word) == 10 and int(word) < 10000:
-        yield "form.number/ten-digits-of-few"
+        yield f"{stem}.number/ten-digits-of-few"
     if int(word) == LARGEST_SECOND:
-        yield "form.number/4294967295"
+        yield f"{stem}.number/4294967295"

@@ -10,15 +10,27 @@ from workshop.player import Player
 from workshop.reading import TABLE
 
 
-class Before(NamedTuple):
-    """What a rule may ask about the line before, which the program must not keep."""
+class Written(NamedTuple):
+    """What a `reading` line wrote, and where."""
 
+    seconds: int
+    watts: int
+    found: bytes                # the area as it was lent
+    area: bytes                 # as it was answered
+
+
+class Before(NamedTuple):
+    """What a rule may ask about the lines before, of which the program must keep
+    nothing."""
+
+    word: str = None            # of the line before, if it was a good one
     outcome: str = None         # of its answer
-    arguments: tuple = ()       # of a `screen` line
+    arguments: tuple = ()
+    written: Written = None     # by the last `reading` line that wasn't refused
 
     @staticmethod
     def of(step):
-        return Before(step.outcome, tuple(step.arguments) if step.word == "screen" else ())
+        return Before(step.word, step.outcome, tuple(step.arguments), step.written or step.before.written)
 
 
 class Step(LineStep):
@@ -28,11 +40,12 @@ class Step(LineStep):
         super().__init__(line, answer, TABLE)
         self.before = before
         self.present, self.image = self.arguments if self.word == "screen" else (None, None)
+        self.seconds, self.watts, self.lent = self.arguments if self.word == "reading" else (None, None, None)
 
     @cached_property
     def outcome(self):
-        """A word for the answer: live, old, ahead, the number of a refusal, help,
-        error."""
+        """A word for the answer: live, old, ahead, area, the number of a refusal,
+        help, error."""
         first, _, rest = self.answer.decode("ascii").partition(" ")
         return {"refused": rest, "commands:": "help", "error:": "error"}.get(first, first)
 
@@ -49,6 +62,13 @@ class Step(LineStep):
     def size(self):
         """N."""
         return len(self.image) // 4 - 1
+
+    @cached_property
+    def written(self):
+        """What a `reading` line wrote; None where it wrote nothing."""
+        if self.outcome != "area":
+            return None
+        return Written(self.seconds, self.watts, self.lent, bytes.fromhex(self.answer[5:].decode("ascii")))
 
 
 class Watched:

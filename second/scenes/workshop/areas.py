@@ -5,6 +5,8 @@ from scenes.images import LAYOUT_OF_SIZE, build_image
 NULL, MESSAGE, TERMINATOR = 0x00, 0x03, 0xFE
 BEGINNING = [0xD5, 0x00, 0x08]
 LONG_READING = 15               # bytes of a reading's block with a length of FFh and two
+WRITTEN = 14                    # bytes of a reading's block as it is written, with FEh behind it
+FACTORY = [0x01, 0x03, 0xA0, 0x0C, 0x34, 0x03, 0x00, 0xFE]
 
 # How many bytes the user pages have.
 USER_BYTES = {size: 4 * (layout.lock_page - 4) for size, layout in LAYOUT_OF_SIZE.items()}
@@ -28,6 +30,12 @@ def reading(seconds, watts):
 
 def message(seconds, watts, long_form=False):
     return block(MESSAGE, reading(seconds, watts), long_form)
+
+
+def written(seconds, watts, area=()):
+    """An area with a reading written into it: "03h 0Bh, the eleven bytes, FEh, and
+    the rest as found"."""
+    return message(seconds, watts) + [TERMINATOR] + list(area[WRITTEN:])
 
 
 def passed_type(dice):
@@ -55,6 +63,11 @@ def rest(dice, length):
     if kind == 0 or length == 0:
         return [NULL] * length
     return ([TERMINATOR] if kind == 1 else [dice.byte()]) + dice.many_bytes(length - 1)
+
+
+def filled_up(dice, front, length):
+    """These bytes, and any behind them up to this length."""
+    return (list(front) + dice.many_bytes(length))[:length]
 
 
 def filled(front, size):

@@ -4,6 +4,7 @@ lines than sixteen bits count."""
 from scenes.chunks import across
 from scenes.workshop.areas import USER_BYTES
 from scenes.workshop.lines import IMAGE
+from scenes.workshop.reading_lines import AREA
 from scenes.workshop.returns import LONGEST
 
 TURNS = 2 ** 16 + 100
@@ -19,6 +20,9 @@ def split_lines(s):
                         (b"help", 5)]:
         across(s, line, front)
         s.say("screen 5 -")
+    line = b"reading 4000000001 777 " + AREA
+    for front in (1, 7, 8, 12, 18, 19, 21, 23, 40, 51, 60, len(line) - 1, len(line), len(line) + 1):
+        across(s, line, front)
 
 
 def long_across_chunks(s):
@@ -29,6 +33,8 @@ def long_across_chunks(s):
         s.say("help")
     for size in USER_BYTES:
         s.show_behind([], size)
+    for length in (504, 888, 1100, 1100, 1100):
+        s.write_into(s.dice.many_bytes(length))
 
 
 def many_turns(s):

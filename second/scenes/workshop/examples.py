@@ -9,8 +9,9 @@ from scenes.images import build_image
 from scenes.workshop.areas import USER_BYTES
 from workshop.player import Player
 
-# 500 watts at second 100.
+# 500 watts at second 100, and how they are written.
 READING = "D50008 64000000 F4010000"
+WRITTEN = "030BD5000864000000F4010000FE"
 
 
 class Examples:
@@ -120,9 +121,67 @@ def wrong_images(e):
     e.line("screen 100 " + "FE" * 1100, "refused 1")
 
 
+def written(e):
+    e.named("03h 0Bh, the eleven bytes, FEh, and the rest as found")
+    e.line("reading 100 500 " + "00" * 14, "area 030BD5000864000000F4010000FE")
+    e.line("reading 100 500 " + "FF" * 20, "area 030BD5000864000000F4010000FEFFFFFFFFFFFF")
+    e.line("reading 100 500 " + "00" * 20, "area 030BD5000864000000F4010000FE000000000000")
+    e.line("reading 100 500 000102030405060708090a0b0c0d0e0f1011", "area 030BD5000864000000F4010000FE0E0F1011")
+    e.line("reading 99 1 030BD5000864000000F4010000FE030B", "area 030BD500086300000001000000FE030B")
+    e.line("reading 5 6 0314" + "AB" * 20 + "FE", "area 030BD500080500000006000000FE" + "AB" * 8 + "FE")
+    for room in (144, 184, 260, 504, 888):
+        e.line("reading 100 500 " + "A5" * room, f"area {WRITTEN}" + "A5" * (room - 14))
+    e.line("reading 100 500 " + "5a" * 1100, f"area {WRITTEN}" + "5A" * 1086)
+
+
+def written_over(e):
+    e.named("03h 0Bh, the eleven bytes, FEh, whatever was there")
+    for held in ("00" * 14, "FF" * 14, "FE" * 14, WRITTEN, "030BD5000863000000F4010000FE",
+                 "030BD5000865000000F4010000FE", "030BD5000864000000F5010000FE", "030BD5000864000000F401000000",
+                 "030BD5000864000000F4010000FF", "03FF000BD5000864000000F40100", "0300FE" + "00" * 11,
+                 "0103A00C340300FE" + "00" * 6, "0000" + WRITTEN[:24], "0312" + "AB" * 12):
+        for rest in ("AB" * 17, "FE" + "CD" * 17, WRITTEN + "EF"):
+            e.line(f"reading 100 500 {held}{rest}", f"area {WRITTEN}{rest}")
+    for place in range(14):
+        held = bytearray.fromhex(WRITTEN)
+        held[place] ^= 0xFF
+        e.line(f"reading 100 500 {held.hex()}", f"area {WRITTEN}")
+
+
+def written_low_first(e):
+    e.named("seconds, then watts, each four bytes low first")
+    for seconds, watts, eight in ((0, 0, "0000000000000000"), (1, 256, "0100000000010000"),
+                                  (0x01020304, 0x05060708, "0403020108070605"),
+                                  (0xA1B2C3D4, 0xFEDCBA98, "D4C3B2A198BADCFE"),
+                                  (4294967295, 0, "FFFFFFFF00000000"), (0, 4294967295, "00000000FFFFFFFF"),
+                                  (4294967295, 4294967295, "FFFFFFFFFFFFFFFF"),
+                                  (2147483648, 16777216, "0000008000000001")):
+        e.line(f"reading {seconds} {watts} " + "33" * 15, f"area 030BD50008{eight}FE33")
+
+
+def areas_too_short(e):
+    e.named("23, area under 14 bytes")
+    e.line("reading 100 500 -", "refused 23")
+    e.line("reading 100 500 00", "refused 23")
+    e.line("reading 100 500 " + "00" * 13, "refused 23")
+    e.line("reading 100 500 030BD5000864000000F4010000", "refused 23")
+    e.line("reading 100 500 " + "00" * 14, "area 030BD5000864000000F4010000FE")
+    e.line("reading 100 500 " + "00" * 15, "area 030BD5000864000000F4010000FE00")
+
+
+def written_and_read_back(e):
+    e.named("Written at page 04h of any right-length image, it is read back by the screen")
+    for size, room in ((45, 144), (135, 504), (231, 888)):
+        e.shows(1000, "FF" * room, "refused 21", size)
+        e.line("reading 1000 4321 " + "FF" * room, "area 030BD50008E8030000E1100000FE" + "FF" * (room - 14))
+        for present, word in ((999, "ahead"), (1000, "live"), (1900, "live"), (1901, "old")):
+            e.shows(present, "030BD50008E8030000E1100000FE", f"{word} 4321", size)
+        e.shows(1000, "FF" * room, "refused 21", size)
+
+
 def lines(e):
     e.named("the lines of the workshop program")
-    e.line("help", "commands: screen SECONDS IMAGE, help")
+    e.line("help", "commands: screen SECONDS IMAGE, reading SECONDS WATTS AREA, help")
     e.line("screen 4294967295 -", "refused 1")
     e.line("screen 0000000000 -", "refused 1")
     e.line("screen 4294967296 -", "error: not how this command is written")
@@ -130,9 +189,20 @@ def lines(e):
     e.line("screen 100", "error: not how this command is written")
     e.line("screen 100 " + "00" * 1101, "error: not how this command is written")
     e.line("Screen 100 -", "error: no such command")
+    e.line("reading 4294967295 4294967295 -", "refused 23")
+    e.line("reading 0000000000 0000000000 -", "refused 23")
+    e.line("reading 4294967296 0 -", "error: not how this command is written")
+    e.line("reading 0 4294967296 -", "error: not how this command is written")
+    e.line("reading 0 00000000000 -", "error: not how this command is written")
+    e.line("reading 100 " + "00" * 20, "error: not how this command is written")
+    e.line("reading 100 500", "error: not how this command is written")
+    e.line("reading 100 500 " + "00" * 1101, "error: not how this command is written")
+    e.line("Reading 100 500 -", "error: no such command")
+    e.line("read 100 500 -", "error: no such command")
 
 
-EXAMPLES = [ages, bytes_low_first, blocks, lengths, the_end, no_readings, wrong_images, lines]
+EXAMPLES = [written, written_over, written_low_first, areas_too_short, ages, bytes_low_first, blocks, lengths,
+            the_end, no_readings, wrong_images, written_and_read_back, lines]
 
 
 def example_lines():

@@ -30,7 +30,7 @@ def right_and_wrong_lengths(s):
 
 
 def any_lengths(s):
-    wrong_lengths(s, [*s.dice.some(3, WRONG_LENGTHS), s.dice.below(1101)], s.dice.between(1, 4))
+    wrong_lengths(s, [*s.dice.some(6, WRONG_LENGTHS), s.dice.below(1101)], s.dice.between(1, 4))
 
 
 def put(image, place, data):

@@ -1,7 +1,7 @@
-"""User pages as they might be met, and damaged ones."""
+"""User pages as they might be met, and damaged ones; readings written into them."""
 
-from scenes.workshop.areas import (MESSAGE, NULL, TERMINATOR, USER_BYTES, block, counted, message, passed_type,
-                                   reading, rest)
+from scenes.workshop.areas import (MESSAGE, NULL, TERMINATOR, USER_BYTES, block, counted, image_of, message,
+                                   passed_type, reading, rest, written)
 
 FULL = 2 ** 32 - 1
 SPEAKING_BYTES = [0x00, 0x00, 0x01, 0x02, 0x03, 0x03, 0x08, 0x0A, 0x0B, 0x0B, 0x0C, 0xD5, 0xFD, 0xFE, 0xFF,
@@ -22,9 +22,11 @@ class Clock:
                            dice.between(-3000, 3000), dice.below(2 ** 32) - 2 ** 31])
         return min(max(self.present - age, 0), FULL)
 
+    def watts(self):
+        return self.dice.one_of([self.dice.below(4000), self.dice.below(2 ** 32)])
+
     def reading(self):
-        watts = self.dice.one_of([self.dice.below(4000), self.dice.below(2 ** 32)])
-        return reading(self.seconds(), watts)
+        return reading(self.seconds(), self.watts())
 
 
 def any_block(dice, clock):
@@ -100,6 +102,32 @@ def any_screen(s, size=None):
     s.show(damaged(dice, area) if dice.one_in(3) else area, size, clock.present)
 
 
+def any_reading(s, size=None):
+    """One `reading` line on user pages, or on the first of their bytes, and now and
+    then what the screen says of them then."""
+    dice = s.dice
+    size = size or dice.one_of([45] * 30 + [135, 231])
+    clock = Clock(dice)
+    area = dice.one_of([any_area, late_message, speaking_area])(dice, size, clock)
+    if dice.one_in(2):
+        area = (written(clock.seconds(), clock.watts()) + area)[:USER_BYTES[size]]
+    area = damaged(dice, area) if dice.one_in(3) else area
+    seconds, watts = clock.seconds(), clock.watts()
+    s.reading(seconds, watts, area[:dice.one_of([len(area), len(area), dice.below(60), dice.between(12, 18)])])
+    if dice.one_in(2):
+        s.screen(clock.present, image_of(size, written(seconds, watts, area), **s.outside()))
+
+
+def readings(s):
+    for _ in range(30):
+        any_reading(s)
+
+
+def readings_of_size(s, size):
+    for _ in range(8):
+        any_reading(s, size)
+
+
 def screens(s):
     for _ in range(60):
         any_screen(s)
@@ -113,11 +141,14 @@ def screens_of_size(s, size):
 def stored(s):
     for _ in range(1500):
         any_screen(s, 45)
+    for _ in range(250):
+        any_reading(s, 45)
 
 
 def stored_of_size(s, size):
     screens_of_size(s, size)
+    readings_of_size(s, size)
 
 
-OF_ANY_KIND = [screens] * 12
-OF_ANY_SIZE = [screens_of_size]
+OF_ANY_KIND = [screens] * 12 + [readings] * 8
+OF_ANY_SIZE = [screens_of_size, readings_of_size]

@@ -9,20 +9,30 @@ FULL = 2 ** 32 - 1
 
 
 class Script(Text):
-    """Lines, most of them `screen` lines."""
+    """Lines, most of them `screen` and `reading` lines."""
 
     def screen(self, present, image):
-        """A `screen` line, now and then written in another hand."""
+        self.in_some_hand("screen", [present], image)
+
+    def reading(self, seconds, watts, area):
+        self.in_some_hand("reading", [seconds, watts], area)
+
+    def in_some_hand(self, word, numbers, data):
+        """A line of numbers and bytes, now and then written in another hand."""
         dice = self.dice
-        seconds, digits = str(present), bytes(image).hex().upper()
+        numbers, digits = [str(number) for number in numbers], bytes(data).hex().upper()
         hand = dice.below(30)
         if hand == 0:
             digits = digits.lower()
         elif hand == 1:
             digits = "".join(dice.one_of([digit, digit.lower()]) for digit in digits)
         elif hand == 2:
-            seconds = seconds.zfill(dice.between(1, 10))
-        self.say(f"screen {seconds} {digits or '-'}")
+            numbers = [number.zfill(dice.between(1, 10)) for number in numbers]
+        self.say(" ".join([word, *numbers, digits or "-"]))
+
+    def write_into(self, area):
+        """A `reading` line of any numbers."""
+        self.reading(self.dice.below(2 ** 32), self.dice.below(2 ** 32), area)
 
     def show(self, area, size=45, present=None, **wishes):
         """A `screen` line on an image with these bytes from page 04h on; whatever

@@ -6,12 +6,14 @@ fresh script draws from, `OF_ANY_KIND`, `OF_ANY_SIZE`, and `RARE`, which are lon
 """
 
 from rules.naming import SIZES
-from scenes.workshop import chunks, edges, image, kept, lines, plausible, readings, returns, walk
+from scenes.workshop import (back, chunks, edges, image, kept, lent, lines, plausible, reading_lines, readings,
+                             returns, walk, written)
 from scenes.workshop.chunks import many_turns
 from scenes.workshop.examples import example_lines
 from scenes.workshop.script import Script
 
-PARTS = [lines, returns, image, walk, edges, readings, kept, chunks, plausible]
+PARTS = [lines, reading_lines, returns, image, walk, edges, readings, lent, written, back, kept, chunks,
+         plausible]
 
 
 def of_all_parts(name):
@@ -51,7 +53,7 @@ def fresh_script(seed, lines_wished):
         s.returns = dice.one_in(8)
         if dice.one_in(8):
             dice.one_of(RARE)(s)
-        elif dice.one_in(6):
+        elif dice.one_in(3):
             dice.one_of(OF_ANY_SIZE)(s, dice.size())
         else:
             dice.one_of(OF_ANY_KIND)(s)

@@ -8,24 +8,43 @@ from wrong.by_rule import ANOTHER_ANSWER, another_answer
 from wrong.trial import Difference
 
 ANSWER_BEFORE = "the answer of the line before"
-SECOND_BEFORE = "the second of the line before"
-IMAGE_BEFORE = "the image of the line before"
-JUDGED_BY_SECONDS = ("live", "old", "ahead")
+AREA_LEFT = "the area as the line before left it"
+FIRST_USER_BYTE = 16
 
 
 def twists_of(before, step):
     """What a step could take from the step before it: what would be something else."""
-    if before.answer != step.answer:
-        yield ANSWER_BEFORE, before.answer
-    if before.word == step.word == "screen":
-        if before.present != step.present and step.outcome in JUDGED_BY_SECONDS:
-            yield SECOND_BEFORE, answer_to(before.present, step.image)
-        if before.image != step.image and (step.refused is None or before.refused != step.refused):
-            yield IMAGE_BEFORE, answer_to(step.present, before.image)
+    taken = [(ANSWER_BEFORE, before.answer), *answers_with_what_was(before, step)]
+    return [(name, given) for name, given in taken if given != step.answer]
 
 
-def answer_to(present, image):
-    return Player().answer(b"screen %d %s" % (present, image.hex().encode("ascii") or b"-"))
+def answers_with_what_was(before, step):
+    """The answer that a line would get with a second, watts or bytes of the line
+    before, or with the area that it left."""
+    now, then = arguments_of(step), arguments_of(before)
+    for name in now:
+        if name in then and then[name] != now[name]:
+            yield f"the {name} of the line before", answer_to(step.word, {**now, name: then[name]})
+    if now and before.written:
+        yield AREA_LEFT, answer_to(step.word, {**now, "bytes": left_behind(before.written.area, step)})
+
+
+def arguments_of(step):
+    """The arguments of a good line, by what they are."""
+    names = {"screen": ["second", "bytes"], "reading": ["second", "watts", "bytes"]}.get(step.word, [])
+    return dict(zip(names, step.arguments))
+
+
+def left_behind(area, step):
+    """The bytes of a line, if what was written before were still there."""
+    if step.word == "reading":
+        return area
+    return (step.image[:FIRST_USER_BYTE] + area + step.image[FIRST_USER_BYTE + len(area):])[:len(step.image)]
+
+
+def answer_to(word, arguments):
+    *numbers, data = arguments.values()
+    return Player().answer(" ".join([word, *map(str, numbers), data.hex() or "-"]).encode("ascii"))
 
 
 class Catalogue:

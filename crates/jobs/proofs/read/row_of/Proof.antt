@@ -13,4 +13,5 @@ row-of-spec =
     (λ c κs. search needs)
     (λ c. (search needs, search row-known))
     (λ c. (search needs, search row-known))
+    (λ c. (search needs, search row-known))
     (λ c. (search needs, search (row-unknown, c .match .rest))))

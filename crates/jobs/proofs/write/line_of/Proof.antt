@@ -1,6 +1,6 @@
 -- `jobs::write::line_of` meets its contract. Assumes nothing.
 use borrow.Author.Needs.{needs}
-use Rattle.jobs.proofs.Telling.{told-by}
+use Rattle.jobs.proofs.Telling.{told-by, area-fits}
 use Rattle.jobs.proofs.write.line_of.Statement.{statement}
 use Rattle.jobs.proofs.write.line_of.Tie as tie
 
@@ -21,12 +21,8 @@ line-of-spec =
     (λ c. search needs)
     (λ c κs. search needs)
     (λ c. search needs)
+    (λ c κs. search area-fits)
     (λ c. search needs)
-    (λ c. search needs)
-    (λ c κs. search needs)
-    (λ c. search needs)
-    (λ c. search needs)
-    (λ c κs. search needs)
     (λ c. search needs)
     (λ c. search needs)
     (λ c κs. search needs)
@@ -36,6 +32,13 @@ line-of-spec =
     (λ c. search needs)
     (λ c. search needs)
     (λ c κs. search needs)
+    (λ c. search needs)
+    (λ c. search needs)
+    (λ c κs. search needs)
+    (λ c. search needs)
+    (λ c. search needs)
+    (λ c κs. search needs)
+    (λ c. (search needs, search told-by))
     (λ c. (search needs, search told-by))
     (λ c. (search needs, search told-by))
     (λ c. (search needs, search told-by))

@@ -13,7 +13,7 @@ answer-to-spec =
     (λ c. search needs)
     (λ c. search needs)
     (λ c. search needs)
-    (λ c. search worked-on)
+    (λ c. (search needs, search worked-on))
     (λ c. search needs)
     (λ c. search needs)
     (λ c. search needs))

@@ -13,4 +13,4 @@ look-spec =
     (λ c. search needs)
     (λ c κs. search needs)
     (λ c κs. search needs)
-    (λ c. search looked))
+    (λ c. (search needs, (λ xs. search (looked, c .screen-told .ensures .1)))))

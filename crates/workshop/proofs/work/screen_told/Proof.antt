@@ -9,5 +9,5 @@ screen-told-spec =
     tie.close
     (tie.spec
     (λ c κs. search needs)
-    (λ c. search told-verdict)
-    (λ c. search told-refusal))
+    (λ c. (search needs, (λ xs. search (told-verdict, c .verdict-told .ensures .1))))
+    (λ c. (search needs, (λ xs. search told-refusal))))

@@ -1,4 +1,5 @@
 -- `workshop::work::verdict_told` meets its contract. Assumes nothing.
+use borrow.Author.Needs.{needs}
 use Rattle.workshop.proofs.Working.{told-live, told-old, told-ahead}
 use Rattle.workshop.proofs.work.verdict_told.Statement.{statement}
 use Rattle.workshop.proofs.work.verdict_told.Tie as tie
@@ -7,6 +8,6 @@ pub verdict-told-spec : {M : Type 1} → statement M
 verdict-told-spec =
     tie.close
     (tie.spec
-    (λ c. search told-live)
-    (λ c. search told-old)
-    (λ c. search told-ahead))
+    (λ c. (search needs, (λ xs. search told-live)))
+    (λ c. (search needs, (λ xs. search told-old)))
+    (λ c. (search needs, (λ xs. search told-ahead))))
