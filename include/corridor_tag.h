@@ -31,13 +31,14 @@
  *
  * Stack. The deepest that was measured on x86-64 is 336 bytes, the caller's frame among them (docs/COST.md).
  *
- * When to save the image. Three kinds of frames and one event can change it, so a copy in flash is behind only after one of these:
+ * When to save the image. Three kinds of frames, one event and the writer can change it, so a copy in flash is behind only after one of these:
  *
- *     corridor_frame      on a record in CORRIDOR_ACTIVE, a frame that begins with
- *                           A2h (WRITE), answered by ACK: 4 bits, 0Ah
- *                           1Bh (PWD_AUTH), whatever is answered: the count of failed passwords
- *                           30h or 3Ah (READ, FAST_READ), where the record's `answered` went from 0 to 1: the counter
- *     corridor_bus_event  CORRIDOR_STOP, on a record in CORRIDOR_WRITING whose `held` isn't 0
+ *     corridor_frame          on a record in CORRIDOR_ACTIVE, a frame that begins with
+ *                               A2h (WRITE), answered by ACK: 4 bits, 0Ah
+ *                               1Bh (PWD_AUTH), whatever is answered: the count of failed passwords
+ *                               30h or 3Ah (READ, FAST_READ), where the record's `answered` went from 0 to 1: the counter
+ *     corridor_bus_event      CORRIDOR_STOP, on a record in CORRIDOR_WRITING whose `held` isn't 0
+ *     corridor_write_reading  where bytes of the image are lent to it, and it gives CORRIDOR_TAKEN
  */
 #ifndef CORRIDOR_TAG_H
 #define CORRIDOR_TAG_H
@@ -287,8 +288,7 @@ corridor_screen_answer corridor_screen(const uint8_t *image, size_t image_length
  * screen then reads the same second and the same watts, whatever the image held before: live, old or ahead by the reading's age alone. Two
  * readings have the same bytes only if they have the same second and the same watts.
  *
- * The bytes stand in the area in no order that a screen could rely on while they are written: a call that reads them waits until this one has
- * returned.
+ * While the call runs the area has neither the old bytes nor the new ones whole: a call that reads it waits until this one has returned.
  */
 uint8_t corridor_write_reading(uint8_t *area, size_t area_length, uint32_t second, uint32_t watts);
 

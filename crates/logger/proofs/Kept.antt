@@ -1,23 +1,21 @@
 -- The promises are kept. Assumes nothing.
 use mathlib.Core.Path.{_≡_, refl, sym, ap, _∙_}
 use mathlib.Core.List.{List, [], _∷_, _++_, append-assoc}
-use mathlib.Core.Bool.{true, false}
-use Prim.Native.Nat.{ℕ, _+_, _-_, _*_, _≤_, _<_}
+use Prim.Native.Nat.{ℕ, _+_, _-_, _*_, _≤_}
 use native.Mathlib.Omega.{arith}
 use lib.Dec.{ltb}
-use lib.ListN.{length, take, drop, getD, length-take, length-drop, length-append, take-append-drop}
+use lib.ListN.{length, take, drop, getD, length-drop, length-append, take-append-drop}
 use lib.Seq.{length-take-le, take-at, drop-at, take-append-add, getD-append-add, getD-drop}
 use borrow.Author.Tests.{le-leb, le-ltb, ltb-false}
 use Rattle.basics.proofs.Choice.{by}
 use Rattle.locks.specs.Locks.{lockPage}
-use Rattle.image.specs.declared.layout.Four.{Four}
 use Rattle.image.specs.Layout.{fourAt, bytesOf, Fits}
 use Rattle.screen.specs.Blocks.{Found, message, counted, block, walk}
 use Rattle.screen.specs.Reading.{isReading, lowFirstFour, secondIn, wattsIn, verdictAt}
 use Rattle.screen.specs.Screen.{reads, readingSeen, foundSeen, userBytes, seen}
 use Rattle.screen.specs.declared.reading.Verdict.{Verdict}
 use Rattle.screen.proofs.Kept as screen
-use Rattle.logger.specs.Writer.{fourOf, readingOf, blockOf, Written, written, Wrote}
+use Rattle.logger.specs.Writer.{fourOf, readingOf, blockOf, Written, written}
 use Rattle.logger.specs.Promises.{writtenAt04, ReadBack, Promises}
 use Rattle.logger.specs.Examples.{Examples}
 use Rattle.logger.proofs.Writing.{block-length}

@@ -26,6 +26,7 @@ fn block_of(second: u32, watts: u32) -> [u8; 14]
     let s = four_of(second);
     let w = four_of(watts);
     [
+        // A message of eleven bytes: those by which a reading is known, the second, the watts.
         0x03,
         0x0B,
         0xD5,
@@ -39,6 +40,7 @@ fn block_of(second: u32, watts: u32) -> [u8; 14]
         w.b1,
         w.b2,
         w.b3,
+        // The end of the blocks.
         0xFE,
     ]
 }
