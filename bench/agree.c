@@ -126,7 +126,7 @@ static bool same_screen(void) {
     return a.refused == b.refused && a.verdict == b.verdict && a.watts == b.watts && a.second == b.second;
 }
 
-/* Into the user pages, or so much of them. */
+/* Into up to 39 of the user bytes; into none where the image is no right one. */
 static bool same_reading(void) {
     size_t room = corridor_pages(proved.length) ? dice(40) : 0;
     uint32_t second = (uint32_t)dice(65536) << dice(17), watts = (uint32_t)dice(65536) << dice(17);

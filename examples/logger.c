@@ -84,11 +84,10 @@ static void print_two(uint32_t number) {
 }
 
 static void show_screen(uint32_t present, const corridor_screen_answer *said) {
-    static const char *const verdicts[] = {[CORRIDOR_LIVE] = "  live: ", [CORRIDOR_OLD] = "  old: ", [CORRIDOR_AHEAD] = "  ahead: "};
     print_two(present / HOUR);
     print(":");
     print_two(present % HOUR / MINUTE);
-    print(verdicts[said->verdict]);
+    print(said->verdict == CORRIDOR_LIVE ? "  live: " : "  old: "); /* of one that was compared, and is not ahead */
     print_number(said->watts);
     print(" W, read ");
     print_number((present - said->second) / MINUTE);

@@ -10,8 +10,7 @@ def write(seconds, watts, area):
     """"Write the reading of Q-6 into a lent user area: 03h 0Bh, the eleven bytes,
     FEh, and the rest as found." 23: "area under 14 bytes, nothing written".
 
-    The area is a bytearray, which keeps its length. "An area of exactly 14 bytes
-    is enough."
+    The area is a bytearray, which keeps its length. Exactly 14 bytes are enough.
     """
     if len(area) < LEAST_BYTES:
         raise Refused(23)

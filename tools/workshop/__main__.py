@@ -2,8 +2,8 @@
 
 A word has a file of its own and a place in WORDS. The file has USAGE, how the word is written; ABOUT, what it does, in a line; HELP, what
 `./workshop WORD --help` says behind USAGE; read(words), which takes the words behind it, reads its files and gives what answer wants; and
-answer(ask, ..), which asks the proved program by its lines and gives the text to print. What is wrong with the words or the files is
-found before the program is built.
+answer(ask, ..), which asks the proved program by its lines, writes its files and gives the text to print. What is wrong with the words or the
+files that are read is found before the program is built.
 """
 import os
 import sys

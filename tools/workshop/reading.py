@@ -2,7 +2,7 @@
 import re
 
 from failures import Failed, WrongUse
-from files import area_in, hexed, shown, write_new, write_over
+from files import area_in, hexed, image_in, shown, write_new, write_over
 from refusals import in_words
 from seconds import now, number_in
 
@@ -17,7 +17,7 @@ SECONDS      the second of the reading, 0 to 4294967295, as logger and board cou
 WATTS        0 to 4294967295
 --board      the file is a whole board's image, of 184, 544 or 928 bytes: its user pages are the area, from page 04h on
 --area       the file is an area, though it has as many bytes as a whole board
---out FILE   what comes out goes into FILE, and AREA.img stays as it is
+--out FILE   what comes out goes into FILE, and AREA.img stays as it is; a file of that name is replaced
 
 To try it on the board of a day, and see what its screen says a minute later:
 
@@ -25,8 +25,9 @@ To try it on the board of a day, and see what its screen says a minute later:
     ./workshop reading --board /tmp/board.img 64800 275
     ./workshop screen /tmp/board.img 64860
 
-The exit status is 0; 1 where a file can't be read or written or the area is refused, and standard error then says why,
-and no file is changed; 2 where a word is wrong or the program is not built.
+The exit status is 0; 1 where a file can't be read or written or the area is refused: standard error then says why, and no
+file is changed. It is also 1 where this can't be said on standard output, and the reading is then written; 2 where a word
+is wrong or the program is not built.
 """
 
 BOARDS = (184, 544, 928)  # the bytes of a whole board
@@ -91,7 +92,7 @@ def read(words):
     out = options.get("--out")
     if name == "-" and out is None:
         raise WrongUse("reading: standard input can't be changed where it is: --out FILE names a file for what comes out")
-    data = area_in(name)
+    data = image_in(name) if "--board" in options else area_in(name)
     return name, data, place_of(name, len(data), options), (second, watts), out
 
 
@@ -124,5 +125,5 @@ def answer(ask, name, data, place, reading, out):
 def in_short(reading, first, others):
     """What was written, and where."""
     second, watts = reading
-    rest = f"; the other {others} are as they were" if others else ""
+    rest = "" if not others else "; the other is as it was" if others == 1 else f"; the other {others} are as they were"
     return f"{watts} W of second {second}, {READING} bytes at {'page 04h' if first else 'the start'}{rest}"

@@ -1,5 +1,5 @@
 -- A reading that is sent over the two wires is what the screen reads. Assumes nothing.
-use mathlib.Core.Path.{_≡_, refl, sym, ap, _∙_}
+use mathlib.Core.Path.{_≡_, refl, sym, ap, subst, _∙_}
 use mathlib.Core.Bool.{true}
 use mathlib.Core.List.{List, [], _∷_}
 use Prim.Native.Nat.{ℕ, _+_, _*_, _-_, _<_}
@@ -12,15 +12,16 @@ use Rattle.image.specs.Layout.{Fits}
 use Rattle.two_wire.specs.Span.{within, stores}
 use Rattle.two_wire.specs.Window.{first, window}
 use Rattle.two_wire.specs.Event.{start, stop, byteSent, writeCode, does}
-use Rattle.two_wire.specs.Run.{Wires, afterEvent, afterBytes, afterStart, afterWrite}
+use Rattle.two_wire.specs.Run.{Wires, afterEvent, afterBytes, afterStart, afterStop, afterWrite}
 use Rattle.two_wire.specs.Promises.{Writes, goesTo}
 use Rattle.two_wire.proofs.Outcome.{length-after}
 use Rattle.two_wire.proofs.ReadBack as wires
 use Rattle.screen.proofs.Kept as screen
-use Rattle.logger.specs.Writer.{blockOf}
+use Rattle.logger.specs.Writer.{blockOf, Written, written}
+use Rattle.logger.specs.Promises.{ReadBack}
 use Rattle.logger.proofs.Writing.{block-length}
 use Rattle.logger.proofs.Kept as logger
-use Rattle.demands.specs.Logged.{high, low, sent, Logged}
+use Rattle.demands.specs.Logged.{high, low, Logged}
 
 -- events leave the image's length
 event-length : (w : Wires) (event b : ℕ) → length (afterEvent w event b .image) ≡ length (w .image)
@@ -32,16 +33,17 @@ unfolding afterBytes
 bytes-length [] w = refl
 bytes-length (b ∷ bs) w = bytes-length bs (afterEvent w byteSent b) ∙ event-length w byteSent b
 
+-- the fourteen bytes of a reading, sent to page 04h
 module _ (n second watts : ℕ) (w : Wires) (f : Fits n (w .image)) where
   abbrev after : List ℕ
-  after = sent second watts w .image
+  after = afterStop (afterWrite w high low (blockOf second watts)) .image
 
   inside : within (window n) (lowFirst low high) ≡ true
   unfolding within
   inside = rw (lt-ltb (lowFirst low high - first) (4 * n) (omega (arith, f .least)))
 
-  written : Writes n w high low (blockOf second watts)
-  written = wires.writes n w high low (blockOf second watts) (screen.sized n (w .image) f) inside
+  arrives : Writes n w high low (blockOf second watts)
+  arrives = wires.writes n w high low (blockOf second watts) (screen.sized n (w .image) f) inside
 
   -- no byte rolls over
   place : (i : ℕ) → i < 14 → goesTo (lowFirst low high) i ≡ first + (4 * 0x04 + i)
@@ -57,7 +59,7 @@ module _ (n second watts : ℕ) (w : Wires) (f : Fits n (w .image)) where
   landed i h =
       let o : 4 * 0x04 + i ≡ goesTo (lowFirst low high) i - first = omega (arith, place i h) in
       ap (λ (k : ℕ). getD after k 0) o
-      ∙ written .lands i (omega (arith, block-length second watts)) (omega (arith, block-length second watts)) (rw (place i h) (stored i h))
+      ∙ arrives .lands i (omega (arith, block-length second watts)) (omega (arith, block-length second watts)) (rw (place i h) (stored i h))
 
   still-fits : Fits n after
   still-fits = record { size = f .size; least = f .least; most = f .most; whole = same ∙ f .whole }
@@ -79,5 +81,13 @@ module _ (n second watts : ℕ) (w : Wires) (f : Fits n (w .image)) where
           let few : i < 14 = omega (arith, many) in
           getD-take 14 (drop (4 * 0x04) after) i 0 few ∙ getD-drop (4 * 0x04) after i 0 ∙ landed i few
 
+  read-there : ReadBack after second watts
+  read-there = logger.promises .standing n second watts after still-fits there
+
+-- and these are what the writer leaves in an area of as many bytes
 pub logged : Logged
-logged = record { reads = λ n second watts w f. logger.promises .standing n second watts (sent second watts w .image) (still-fits n second watts w f) (there n second watts w f) }
+logged = record {
+  reads = λ n second watts area w h f.
+      let same : blockOf second watts ≡ written second watts area .area = ap (λ (o : Written). o .area) (sym (logger.promises .exact second watts area h)) in
+      subst (λ (l : List ℕ). ReadBack (afterStop (afterWrite w high low l) .image) second watts) same (read-there n second watts w f);
+}

@@ -20,9 +20,9 @@ pub data Told : Type 0 where
   notSoWritten : Told
   tooLong : Told
 
--- the parts of an answer's line: "`live WATTS`, `old WATTS`, `ahead WATTS`, or `refused K`"; "`area HEX`, or `refused K`", which is never of no
--- bytes; "`help` names the commands", each with the words that it takes; "any other line than those below is answered by one of the three
--- `error: ..` lines"
+-- the parts of an answer's line: "`live WATTS`, `old WATTS`, `ahead WATTS`, or `refused K`"; "`area HEX`, or `refused K`": an area that is told has
+-- bytes, so that no `-` is needed; "`help` names the commands", each with the words that it takes; "any other line than those below is answered by
+-- one of the three `error: ..` lines"
 abbrev pub partsOf : Told → List Part
 partsOf (live w) = word (text "live ") ∷ number w ∷ []
 partsOf (old w) = word (text "old ") ∷ number w ∷ []

@@ -1,12 +1,12 @@
 -- The promises are kept. Assumes nothing.
 use mathlib.Core.Path.{_≡_, refl, sym, ap, _∙_}
-use mathlib.Core.List.{List, [], _∷_, _++_, append-assoc}
-use Prim.Native.Nat.{ℕ, _+_, _-_, _*_, _≤_}
+use mathlib.Core.List.{List, [], _∷_, _++_, append-assoc, append-nil}
+use Prim.Native.Nat.{ℕ, _+_, _-_, _*_, _≤_, _<_}
 use native.Mathlib.Omega.{arith}
 use lib.Dec.{ltb}
-use lib.ListN.{length, take, drop, getD, length-drop, length-append, take-append-drop}
+use lib.ListN.{length, take, drop, getD, length-drop, length-append, take-append-drop, drop-of-length-le}
 use lib.Seq.{length-take-le, take-at, drop-at, take-append-add, getD-append-add, getD-drop}
-use borrow.Author.Tests.{le-leb, le-ltb, ltb-false}
+use borrow.Author.Tests.{le-leb, lt-ltb, le-ltb, ltb-false}
 use Rattle.basics.proofs.Choice.{by}
 use Rattle.locks.specs.Locks.{lockPage}
 use Rattle.image.specs.Layout.{fourAt, bytesOf, Fits}
@@ -84,6 +84,15 @@ module _ (second watts : ℕ) (area : List ℕ) where
   unfolding written
   taken h = rw (le-ltb (length area) 14 h)
 
+  all-written : length area ≡ 14 → written second watts area ≡ record { refused = 0; area = blockOf second watts }
+  unfolding written
+  all-written h =
+      rw (le-ltb (length area) 14 (omega arith), drop-of-length-le area {i = 14} (omega arith), append-nil (blockOf second watts))
+
+  none-written : length area < 14 → written second watts area ≡ record { refused = 23; area = area }
+  unfolding written
+  none-written h = rw (lt-ltb (length area) 14 h)
+
   same-length : length (written second watts area .area) ≡ length area
   unfolding written
   same-length =
@@ -145,6 +154,8 @@ promises = record {
         sym (second-back second watts (drop 14 area)) ∙ ap (λ (l : List ℕ). secondIn (drop 2 l)) same ∙ second-back second′ watts′ (drop 14 area′),
         sym (watts-back second watts (drop 14 area)) ∙ ap (λ (l : List ℕ). wattsIn (drop 2 l)) same ∙ watts-back second′ watts′ (drop 14 area′),
       );
+  exact = all-written;
+  short = none-written;
   rest = λ second watts i area. same-rest second watts area i;
   long = same-length;
   alike = λ due r r′ after after′ w w′. (w .refused ∙ sym (w′ .refused), w .area ∙ sym (w′ .area));

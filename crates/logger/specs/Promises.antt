@@ -31,7 +31,11 @@ pub record Promises : Type 0 where
   -- "two readings give equal bytes only if they are equal", whatever areas they were written into
   pub unequal : (second watts second′ watts′ : ℕ) (area area′ : List ℕ) → 14 ≤ length area → 14 ≤ length area′
       → written second watts area .area ≡ written second′ watts′ area′ .area → (second ≡ second′) × (watts ≡ watts′)
-  -- "and the rest as found", byte by byte, and no byte more or less; in a refused area every byte
+  -- an area of exactly 14 bytes is then the reading's, as a logger sends them
+  pub exact : (second watts : ℕ) (area : List ℕ) → length area ≡ 14 → written second watts area ≡ record { refused = 0; area = blockOf second watts }
+  -- "23, area under 14 bytes, nothing written"
+  pub short : (second watts : ℕ) (area : List ℕ) → length area < 14 → written second watts area ≡ record { refused = 23; area = area }
+  -- "and the rest as found", byte by byte, and no byte more or less
   pub rest : (second watts i : ℕ) (area : List ℕ) → 14 ≤ i → getD (written second watts area .area) i 0 ≡ getD area i 0
   pub long : (second watts : ℕ) (area : List ℕ) → length (written second watts area .area) ≡ length area
   -- two outcomes that the contract allows for one input are equal

@@ -10,7 +10,7 @@ use Rattle.image.specs.Layout.{bytesOf}
 
 -- ---- "the reading of Q-6"
 
--- "each four bytes low first"
+-- "each four bytes low first": of a number of 32 bits, of which no more than a byte is left above the third
 unfoldable pub fourOf : ℕ → Four
 fourOf n = record { b0 = n % 256; b1 = n / 256 % 256; b2 = n / 65536 % 256; b3 = n / 16777216 }
 

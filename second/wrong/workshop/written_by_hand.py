@@ -106,7 +106,6 @@ HEADS_BY_HAND = {
 
 ENDS_BY_HAND = {
     "FEh isn't written": instead(DUE, DUE.replace(END, "area[13:14]")),
-    "FEh is written only where it stands": instead(DUE, DUE.replace(END, "bytes([area[13] or TERMINATOR])")),
     "FEh is written only over 00h": instead(
         DUE, DUE.replace(END, "(area[13:14] if area[13] else bytes([TERMINATOR]))")),
     "FEh isn't written as the last byte": instead(

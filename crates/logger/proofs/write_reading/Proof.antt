@@ -8,7 +8,7 @@ use Rattle.logger.proofs.write_reading.Tie as tie
 returns : tie.Need-returns
 returns c = area-short _ _ _ (omega arith)
 
--- The fourteen bytes lie within the area. It is named, so that nothing hides it where it fails.
+-- The fourteen bytes lie within the area. It is named, so that a program that breaks it is refused by this name.
 part-copy-end : tie.Need-part-copy-end
 part-copy-end c = search needs
 
