@@ -115,8 +115,9 @@ static bool same_frame(const struct frame *f) {
 }
 
 static bool same_event(uint8_t event, uint8_t byte) {
-    corridor_bus_answer a = proved.bus_event(&proved.bus, proved.image, proved.length, event, byte);
-    corridor_bus_answer b = plain.bus_event(&plain.bus, plain.image, plain.length, event, byte);
+    size_t room = dice(60) ? CORRIDOR_MEMORY_BYTES : dice(CORRIDOR_MEMORY_BYTES);
+    corridor_bus_answer a = proved.bus_event(&proved.bus, proved.image, proved.length, proved.memory, room, event, byte);
+    corridor_bus_answer b = plain.bus_event(&plain.bus, plain.image, plain.length, plain.memory, room, event, byte);
     return a.refused == b.refused && a.kind == b.kind && a.value == b.value;
 }
 
@@ -136,7 +137,7 @@ static bool same_reading(void) {
 static uint8_t bus_byte(void) {
     switch (proved.bus.phase) {
     case CORRIDOR_AWAITS_DEVICE: return dice(8) ? 0xA0 + (uint8_t)dice(2) : dice_byte();
-    case CORRIDOR_AWAITS_HIGH: return dice(8) ? 0x40 + (uint8_t)dice(4) : dice_byte();
+    case CORRIDOR_AWAITS_HIGH: return dice(8) ? 0x3E + (uint8_t)dice(6) : dice_byte();
     default: return dice_byte();
     }
 }
@@ -163,6 +164,7 @@ static bool alike(void) {
     return same_bytes(&proved.record, &plain.record, sizeof proved.record) && proved.bus.phase == plain.bus.phase &&
            proved.bus.held == plain.bus.held && proved.bus.counter == plain.bus.counter &&
            same_bytes(proved.bus.bytes, plain.bus.bytes, sizeof proved.bus.bytes) && same_bytes(proved.image, plain.image, proved.length) &&
+           same_bytes(proved.memory, plain.memory, sizeof proved.memory) &&
            same_bytes(proved.answer, plain.answer, sizeof proved.answer);
 }
 

@@ -8,25 +8,28 @@ static void run_frame(struct tag *t) {
     t->frame(t->image, t->length, t->answer, sizeof t->answer, sent_from, sent.bytes, sent.length, sent.bits, true);
 }
 
-static void send_byte(struct tag *t, uint8_t byte) { t->bus_event(&t->bus, t->image, t->length, CORRIDOR_BYTE_SENT, byte); }
+static void send_byte(struct tag *t, uint8_t byte) {
+    t->bus_event(&t->bus, t->image, t->length, t->memory, sizeof t->memory, CORRIDOR_BYTE_SENT, byte);
+}
 
-static void event(struct tag *t, uint8_t event) { t->bus_event(&t->bus, t->image, t->length, event, 0); }
+static void event(struct tag *t, uint8_t event) { t->bus_event(&t->bus, t->image, t->length, t->memory, sizeof t->memory, event, 0); }
 
-static void run_bus_write(struct tag *t) {
+static void send_address(struct tag *t, unsigned address) {
     event(t, CORRIDOR_START);
     send_byte(t, 0xA0);
-    send_byte(t, 0x40);
-    send_byte(t, 0x40);
+    send_byte(t, (uint8_t)(address >> 8));
+    send_byte(t, (uint8_t)address);
+}
+
+static void write_from(struct tag *t, unsigned address) {
+    send_address(t, address);
     for (uint8_t i = 0; i < 16; i++)
         send_byte(t, i);
     event(t, CORRIDOR_STOP);
 }
 
-static void run_bus_read(struct tag *t) {
-    event(t, CORRIDOR_START);
-    send_byte(t, 0xA0);
-    send_byte(t, 0x40);
-    send_byte(t, 0x00);
+static void read_from(struct tag *t, unsigned address) {
+    send_address(t, address);
     event(t, CORRIDOR_START);
     send_byte(t, 0xA1);
     for (int i = 0; i < 4 * 231 - 1; i++)
@@ -34,6 +37,14 @@ static void run_bus_read(struct tag *t) {
     event(t, CORRIDOR_BYTE_READ_LAST);
     event(t, CORRIDOR_STOP);
 }
+
+static void run_bus_write(struct tag *t) { write_from(t, CORRIDOR_WINDOW + 0x40); }
+
+static void run_bus_read(struct tag *t) { read_from(t, CORRIDOR_WINDOW); }
+
+static void run_memory_write(struct tag *t) { write_from(t, CORRIDOR_MEMORY_ADDRESS + 0x1040); }
+
+static void run_memory_read(struct tag *t) { read_from(t, CORRIDOR_MEMORY_ADDRESS); }
 
 static void run_screen(struct tag *t) { t->screen(t->image, t->length, 26000); }
 
@@ -76,6 +87,8 @@ void list_kinds(struct kind kinds[KINDS]) {
         {"PWD_AUTH                     ", run_frame, 50000, WITH_CRC(0x1B, 0, 0, 0, 0), CORRIDOR_ACTIVE, false},
         {"bus write of 16 bytes        ", run_bus_write, 10000, {.length = 0}, 0, false},
         {"bus read of a whole window   ", run_bus_read, 500, {.length = 0}, 0, false},
+        {"data memory, write of 16     ", run_memory_write, 10000, {.length = 0}, 0, false},
+        {"data memory, read of 924     ", run_memory_read, 500, {.length = 0}, 0, false},
         {"screen of a reading          ", run_screen, 200000, {.length = 0}, 0, true},
         {"screen of empty user pages   ", run_screen, 10000, {.length = 0}, 0, false},
         {"a reading written            ", run_reading, 200000, {.length = 0}, 0, false},

@@ -418,33 +418,37 @@ corridor_bus_record plain_bus_at_rest(void)
     return bus;
 }
 
-/* "Stop stores the gathered bytes [..] except image bytes 0-9 and places past the window" */
-static void store_gathered(const corridor_bus_record *bus, uint8_t *image, unsigned pages)
+/* "Stop stores the gathered bytes [..] except image bytes 0-9 and places past the window"; of the data memory "none of its bytes is kept back" */
+static void store_gathered(const corridor_bus_record *bus, uint8_t *bytes, unsigned first, unsigned length, unsigned kept)
 {
-    const unsigned base = (bus->counter & ~63u) - CORRIDOR_WINDOW; /* below the window it wraps round, far past the end */
+    const unsigned base = (bus->counter & ~63u) - first;
     for (unsigned k = 0; k < bus->held && k < 64; k++) {
         const unsigned place = (bus->counter + k) & 63;
-        if (base + place >= 10 && base + place < 4 * pages)
-            image[base + place] = bus->bytes[place];
+        if (base + place >= kept && base + place < length)
+            bytes[base + place] = bus->bytes[place];
     }
 }
 
 /* "if any were gathered, the counter becomes the place after the last data byte, rolled within its page. The bus is then at rest." */
-static void bus_stop(corridor_bus_record *bus, uint8_t *image, unsigned pages)
+static void bus_stop(corridor_bus_record *bus, uint8_t *image, unsigned pages, uint8_t *memory)
 {
     unsigned counter = bus->counter;
     if (bus->phase == CORRIDOR_WRITING && bus->held > 0) {
-        store_gathered(bus, image, pages);
+        if (counter < CORRIDOR_WINDOW)
+            store_gathered(bus, memory, CORRIDOR_MEMORY_ADDRESS, CORRIDOR_MEMORY_BYTES, 0);
+        else
+            store_gathered(bus, image, CORRIDOR_WINDOW, 4 * pages, 10);
         counter = (counter & ~63u) | ((counter + bus->held) & 63);
     }
     bus_becomes(bus, CORRIDOR_AT_REST, (uint16_t)counter);
 }
 
-/* "low acknowledged exactly if the address is in the window, setting the counter, else deaf with the counter kept" */
+/* "low acknowledged exactly if the address is in the window, setting the counter, else deaf with the counter kept"; now "in either region", which
+   are one behind the other */
 static bool low_address_sent(corridor_bus_record *bus, unsigned pages, uint8_t low)
 {
     const unsigned address = (unsigned)bus->held << 8 | low;
-    if (address - CORRIDOR_WINDOW >= 4 * pages) {
+    if (address >= CORRIDOR_WINDOW + 4 * pages) {
         bus_becomes(bus, CORRIDOR_DEAF, bus->counter);
         return false;
     }
@@ -483,21 +487,28 @@ static bool byte_sent(corridor_bus_record *bus, unsigned pages, uint8_t byte)
     }
 }
 
-/* "each read gives the counter's byte and advances, last to first; a counter outside the window counts as 4000h" */
-static uint8_t byte_read(corridor_bus_record *bus, const uint8_t *image, unsigned pages, bool acknowledged)
+/* "each read gives the counter's byte and advances, last to first"; "A counter in neither region still counts as 4000h." */
+static uint8_t byte_read(corridor_bus_record *bus, const uint8_t *image, unsigned pages, const uint8_t *memory, bool acknowledged)
 {
-    unsigned offset = (unsigned)bus->counter - CORRIDOR_WINDOW;
-    unsigned next;
+    const uint8_t phase = acknowledged ? CORRIDOR_READING : CORRIDOR_DEAF;
+    unsigned offset = bus->counter, next;
     if (bus->phase != CORRIDOR_READING)
         return 0xFF; /* "A read at any other time gives FFh and changes nothing" */
+    if (offset < CORRIDOR_WINDOW) {
+        next = offset + 1 == CORRIDOR_MEMORY_BYTES ? 0 : offset + 1;
+        bus_becomes(bus, phase, (uint16_t)next);
+        return memory[offset];
+    }
+    offset -= CORRIDOR_WINDOW;
     if (offset >= 4 * pages)
         offset = 0;
     next = offset + 1 == 4 * pages ? 0 : offset + 1;
-    bus_becomes(bus, acknowledged ? CORRIDOR_READING : CORRIDOR_DEAF, (uint16_t)(CORRIDOR_WINDOW + next));
+    bus_becomes(bus, phase, (uint16_t)(CORRIDOR_WINDOW + next));
     return offset < 4 * PWD_PAGE(pages) ? image[offset] : 0; /* "The PWD and PACK pages read as zeros." */
 }
 
-corridor_bus_answer plain_bus_event(corridor_bus_record *held, uint8_t *image, size_t image_length, uint8_t event, uint8_t byte)
+corridor_bus_answer plain_bus_event(corridor_bus_record *held, uint8_t *image, size_t image_length, uint8_t *memory, size_t memory_length,
+                                    uint8_t event, uint8_t byte)
 {
     corridor_bus_answer given = {CORRIDOR_TAKEN, CORRIDOR_NOTHING, 0};
     const unsigned pages = pages_of(image_length);
@@ -505,12 +516,16 @@ corridor_bus_answer plain_bus_event(corridor_bus_record *held, uint8_t *image, s
         given.refused = CORRIDOR_REFUSED_IMAGE;
         return given;
     }
+    if (memory_length != CORRIDOR_MEMORY_BYTES) {
+        given.refused = CORRIDOR_REFUSED_MEMORY;
+        return given;
+    }
     switch (event) {
     case CORRIDOR_START: /* "drop an unfinished write, the counter staying at the address sent" */
         bus_becomes(held, CORRIDOR_AWAITS_DEVICE, held->counter);
         break;
     case CORRIDOR_STOP:
-        bus_stop(held, image, pages);
+        bus_stop(held, image, pages, memory);
         break;
     case CORRIDOR_BYTE_SENT:
         given.kind = CORRIDOR_ACKNOWLEDGE;
@@ -519,7 +534,7 @@ corridor_bus_answer plain_bus_event(corridor_bus_record *held, uint8_t *image, s
     case CORRIDOR_BYTE_READ_ACK:
     case CORRIDOR_BYTE_READ_LAST:
         given.kind = CORRIDOR_BYTE;
-        given.value = byte_read(held, image, pages, event == CORRIDOR_BYTE_READ_ACK);
+        given.value = byte_read(held, image, pages, memory, event == CORRIDOR_BYTE_READ_ACK);
         break;
     default:
         given.refused = CORRIDOR_REFUSED_EVENT;

@@ -20,7 +20,8 @@ corridor_answer plain_frame(uint8_t *image, size_t image_length, uint8_t *answer
 
 corridor_bus_record plain_bus_at_rest(void);
 
-corridor_bus_answer plain_bus_event(corridor_bus_record *held, uint8_t *image, size_t image_length, uint8_t event, uint8_t byte);
+corridor_bus_answer plain_bus_event(corridor_bus_record *held, uint8_t *image, size_t image_length, uint8_t *memory, size_t memory_length,
+                                    uint8_t event, uint8_t byte);
 
 corridor_screen_answer plain_screen(const uint8_t *image, size_t image_length, uint32_t present);
 

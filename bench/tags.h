@@ -6,12 +6,13 @@
 
 struct tag {
     corridor_answer (*frame)(uint8_t *, size_t, uint8_t *, size_t, corridor_tag_record, const uint8_t *, size_t, size_t, bool);
-    corridor_bus_answer (*bus_event)(corridor_bus_record *, uint8_t *, size_t, uint8_t, uint8_t);
+    corridor_bus_answer (*bus_event)(corridor_bus_record *, uint8_t *, size_t, uint8_t *, size_t, uint8_t, uint8_t);
     corridor_tag_record (*field_loss)(corridor_tag_record);
     corridor_screen_answer (*screen)(const uint8_t *, size_t, uint32_t);
     uint8_t (*write_reading)(uint8_t *, size_t, uint32_t, uint32_t);
     uint8_t image[CORRIDOR_IMAGE_231];
     size_t length;
+    uint8_t memory[CORRIDOR_MEMORY_BYTES];
     uint8_t answer[CORRIDOR_ANSWER_ROOM];
     corridor_tag_record record;
     corridor_bus_record bus;

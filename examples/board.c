@@ -1,15 +1,16 @@
 /*
  * A controller's main loop over the corridor tag. The front end and the pin driver are stubs that replay what they once saw; on a board they
- * are interrupts and registers. What matters is between them: one image, one record for each side, a call for whatever happens, and one for what
- * the screen is to show.
+ * are interrupts and registers. What matters is between them: one image, one data memory, one record for each side, a call for whatever happens,
+ * and one for what the screen is to show. Behind the loop the logger leaves a day of readings in the data memory, and they are read back.
  */
 #include "corridor_tag.h"
 #include "host.h"
 
-/* ---- what a firmware holds: the image, the two records, and room for an answer */
+/* ---- what a firmware holds: the image, the data memory, the two records, and room for an answer */
 
 /* A factory-fresh board of 45 pages; pages 04h to 07h will hold the reading. */
 static uint8_t image[CORRIDOR_IMAGE_45] = CORRIDOR_FACTORY_45;
+static uint8_t memory[CORRIDOR_MEMORY_BYTES];
 static uint8_t answer[CORRIDOR_ANSWER_ROOM];
 static corridor_tag_record tag;
 static corridor_bus_record bus;
@@ -123,7 +124,7 @@ static void on_event(const struct seen *seen) {
         print(" ");
         print_hex(seen->byte);
     }
-    corridor_bus_answer said = corridor_bus_event(&bus, image, sizeof image, seen->event, seen->byte);
+    corridor_bus_answer said = corridor_bus_event(&bus, image, sizeof image, memory, sizeof memory, seen->event, seen->byte);
     if (said.refused != CORRIDOR_TAKEN)
         show_refusal(said.refused);
     else if (said.kind == CORRIDOR_ACKNOWLEDGE)
@@ -151,6 +152,76 @@ static void on_screen(unsigned moment) {
     print(ahead ? " s from now\n" : " s ago\n");
 }
 
+/* ---- a day of readings in the data memory: one every five minutes, 16 bytes apart, so that each lies within one 64-byte page */
+
+enum { READINGS = 288, APART = 16 };
+
+/* Any reading will do here: none at midnight, 1,440 W at noon. */
+static void write_reading(uint8_t reading[CORRIDOR_READING_BYTES], uint32_t number) {
+    corridor_write_reading(reading, CORRIDOR_READING_BYTES, 300 * number, 10 * (number < READINGS / 2 ? number : READINGS - number));
+}
+
+/* What a pin driver does with an event. Gives the acknowledge bit, or the byte that was read. */
+static uint8_t on_wires(uint8_t event, uint8_t byte) {
+    corridor_bus_answer said = corridor_bus_event(&bus, image, sizeof image, memory, sizeof memory, event, byte);
+    if (said.refused != CORRIDOR_TAKEN)
+        show_refusal(said.refused);
+    return said.value;
+}
+
+/* Gives whether each byte was acknowledged. */
+static bool send_address(uint32_t address) {
+    on_wires(CORRIDOR_START, 0);
+    bool good = on_wires(CORRIDOR_BYTE_SENT, 0xA0);
+    good = on_wires(CORRIDOR_BYTE_SENT, (uint8_t)(address >> 8)) && good;
+    return on_wires(CORRIDOR_BYTE_SENT, (uint8_t)address) && good;
+}
+
+static uint32_t keep_day(void) {
+    uint32_t kept = 0;
+    for (uint32_t number = 0; number < READINGS; number++) {
+        uint8_t reading[CORRIDOR_READING_BYTES];
+        write_reading(reading, number);
+        bool good = send_address(CORRIDOR_MEMORY_ADDRESS + APART * number);
+        for (size_t i = 0; i < sizeof reading; i++)
+            good = on_wires(CORRIDOR_BYTE_SENT, reading[i]) && good;
+        on_wires(CORRIDOR_STOP, 0);
+        kept += good;
+    }
+    return kept;
+}
+
+/* One sequential read from the first byte on. Gives how many readings come back as they were sent. */
+static uint32_t read_day(void) {
+    uint32_t same = 0;
+    send_address(CORRIDOR_MEMORY_ADDRESS);
+    on_wires(CORRIDOR_START, 0);
+    on_wires(CORRIDOR_BYTE_SENT, 0xA1);
+    for (uint32_t number = 0; number < READINGS; number++) {
+        uint8_t due[CORRIDOR_READING_BYTES];
+        bool good = true;
+        write_reading(due, number);
+        for (size_t i = 0; i < APART; i++) {
+            bool last = number + 1 == READINGS && i + 1 == APART;
+            uint8_t byte = on_wires(last ? CORRIDOR_BYTE_READ_LAST : CORRIDOR_BYTE_READ_ACK, 0);
+            good = good && (i >= sizeof due || byte == due[i]);
+        }
+        same += good;
+    }
+    on_wires(CORRIDOR_STOP, 0);
+    return same;
+}
+
+static void on_day(void) {
+    print("wires  a day of readings for the data memory: ");
+    print_number(keep_day());
+    print(" of ");
+    print_number(READINGS);
+    print(" acknowledged\nwires  they are read back: ");
+    print_number(read_day());
+    print(" as they were sent\n");
+}
+
 /* ---- the main loop: whatever comes next, from either side, and the screen after a stop and when its time has come */
 
 int program(void) {
@@ -168,5 +239,6 @@ int program(void) {
         for (; looked < COUNT(looks) && looks[looked] == moment; looked++)
             on_screen(moment);
     }
+    on_day();
     return 0;
 }

@@ -12,11 +12,12 @@ enum { MINUTE = 60, HOUR = 3600, DAY = 86400, EVERY = 5 * MINUTE, LIVE_FOR = 900
 /* ---- the board: what its firmware holds, and what comes to it */
 
 static uint8_t image[CORRIDOR_IMAGE_45] = CORRIDOR_FACTORY_45;
+static uint8_t memory[CORRIDOR_MEMORY_BYTES];
 static corridor_bus_record bus;
 
 /* The pin driver has seen an event. Gives whether the tag acknowledges it; starts and stops count as acknowledged. */
 static bool on_wires(uint8_t event, uint8_t byte) {
-    corridor_bus_answer said = corridor_bus_event(&bus, image, sizeof image, event, byte);
+    corridor_bus_answer said = corridor_bus_event(&bus, image, sizeof image, memory, sizeof memory, event, byte);
     return said.refused == CORRIDOR_TAKEN && (said.kind != CORRIDOR_ACKNOWLEDGE || said.value);
 }
 

@@ -1,11 +1,13 @@
 /*
  * The corridor tag, for a controller's firmware in C.
  *
- * The tag has two sides that share one image: radio frames after demodulation, and two-wire events after the pin driver. A firmware holds
- * the image and two records, and hands them to every call; the tag itself keeps nothing. A board with a screen asks the same image what to
- * show of the reading that its logger wrote (corridor_screen); a logger makes the bytes of a reading (corridor_write_reading).
+ * The tag has two sides that share one image: radio frames after demodulation, and two-wire events after the pin driver. Beside the image the
+ * two wires have a data memory of their own, which the radio can't reach. A firmware holds the image, the data memory and two records, and hands
+ * them to the calls; the tag itself keeps nothing. A board with a screen asks the same image what to show of the reading that its logger wrote
+ * (corridor_screen); a logger makes the bytes of a reading (corridor_write_reading).
  *
  *     static uint8_t image[CORRIDOR_IMAGE_45] = CORRIDOR_FACTORY_45;    the pages, and a tail of four bytes
+ *     static uint8_t memory[CORRIDOR_MEMORY_BYTES];                     what a logger keeps on the board
  *     static uint8_t answer[CORRIDOR_ANSWER_ROOM];                      where answers are put
  *     corridor_tag_record tag = corridor_field_off();
  *     corridor_bus_record bus = corridor_bus_at_rest();
@@ -33,13 +35,15 @@
  *
  * Stack. The deepest that was measured on x86-64 is 336 bytes, the caller's frame among them (docs/COST.md).
  *
- * When to save the image. Three kinds of frames, one event and the writer can change it, so a copy in flash is behind only after one of these:
+ * When to save the image and the data memory. Three kinds of frames, one event and the writer can change the image, so a copy in flash is behind
+ * only after one of these; the event alone can change the data memory, and never both of them:
  *
  *     corridor_frame          on a record in CORRIDOR_ACTIVE, a frame that begins with
  *                               A2h (WRITE), answered by ACK: 4 bits, 0Ah
  *                               1Bh (PWD_AUTH), whatever is answered: the count of failed passwords
  *                               30h or 3Ah (READ, FAST_READ), where the record's `answered` went from 0 to 1: the counter
- *     corridor_bus_event      CORRIDOR_STOP, on a record in CORRIDOR_WRITING whose `held` isn't 0
+ *     corridor_bus_event      CORRIDOR_STOP, on a record in CORRIDOR_WRITING whose `held` isn't 0: the image where its `counter` is
+ *                               CORRIDOR_WINDOW or above, else the data memory, and of either no byte outside the 64 of that address's page
  *     corridor_write_reading  where bytes of the image are lent to it, and it gives CORRIDOR_TAKEN
  */
 #ifndef CORRIDOR_TAG_H
@@ -108,6 +112,10 @@ extern "C" {
 /* The address of the image's first byte on the two wires. */
 #define CORRIDOR_WINDOW 0x4000
 
+/* The data memory on the two wires: the address of its first byte, and its bytes. */
+#define CORRIDOR_MEMORY_ADDRESS 0x0000
+#define CORRIDOR_MEMORY_BYTES 16384
+
 /* How many bytes a logger writes for a reading, and where on the two wires: at page 04h. */
 #define CORRIDOR_READING_BYTES 14
 #define CORRIDOR_READING_ADDRESS 0x4010
@@ -121,6 +129,7 @@ enum {
     CORRIDOR_REFUSED_BUFFER = 2,      /* the answer buffer has under 1,024 bytes */
     CORRIDOR_REFUSED_FRAME = 3,       /* no bits or over 512, bytes that are not the bits rounded up, or a set bit above the last */
     CORRIDOR_REFUSED_EVENT = 4,       /* an event that is not one of the five */
+    CORRIDOR_REFUSED_MEMORY = 5,      /* the data memory is not 16,384 bytes long */
     CORRIDOR_REFUSED_NO_MESSAGE = 20, /* the user pages have no block of type 03h */
     CORRIDOR_REFUSED_PASSES = 21,     /* a block's length, or the bytes that it counts, passes the user pages */
     CORRIDOR_REFUSED_NO_READING = 22, /* the first block of type 03h is not a reading */
@@ -234,12 +243,21 @@ corridor_bus_record corridor_bus_at_rest(void);
 
 /*
  * An event was seen on the two wires. `byte` is the byte sent, and any number for the other events. Updates the record where it is, and at a
- * stop after data bytes also the image. A refused call (1 or 4) changes neither.
+ * stop after data bytes also the image or the data memory. A refused call (1, then 5, then 4) changes none of the three.
+ *
+ * The wires have two regions of addresses, with the same rules:
+ *
+ *     0000h-3FFFh             the data memory, 16,384 bytes as the logger likes: every byte is stored as it comes and read as it is stored
+ *     4000h-4000h+4N-1        the image's N pages: bytes 0 to 9 are not stored, and PWD and PACK read as zeros
+ *
+ * An address in either is acknowledged. Data bytes stay in the 64-byte page of the address sent: behind its last byte comes its first. Reads go
+ * on to the end of their region, and then at its first byte: 3FFFh is followed by 0000h. A counter in neither region counts as 4000h.
  *
  * Hand over every event, whomever it is for. A byte for another device isn't acknowledged, and a read when the tag isn't addressed gives FFh:
  * all ones, so the line is to be let go, as for an acknowledge bit of 0.
  */
-corridor_bus_answer corridor_bus_event(corridor_bus_record *bus, uint8_t *image, size_t image_length, uint8_t event, uint8_t byte);
+corridor_bus_answer corridor_bus_event(corridor_bus_record *bus, uint8_t *image, size_t image_length, uint8_t *memory, size_t memory_length,
+                                       uint8_t event, uint8_t byte);
 
 /* ---- the screen */
 

@@ -17,13 +17,14 @@ class State(NamedTuple):
     pages: tuple
     tail: tuple
     buffer_length: int
+    data_memory: bytes          # one object for many states, until a store
 
 
 def state_of(player):
     tag, radio, bus = player.tag, player.tag.radio, player.tag.bus
     return State(radio.state, radio.woken_from_halt, radio.authenticated, radio.read_answered,
                  bus.phase, bus.counter, bus.high, bus.gathered,
-                 tag.image.pages, tag.image.tail, player.buffer_length)
+                 tag.image.pages, tag.image.tail, player.buffer_length, tag.data_memory.data)
 
 
 def put_state(player, state):
@@ -31,5 +32,5 @@ def put_state(player, state):
     tag, radio, bus = player.tag, player.tag.radio, player.tag.bus
     (radio.state, radio.woken_from_halt, radio.authenticated, radio.read_answered,
      bus.phase, bus.counter, bus.high, bus.gathered,
-     tag.image.pages, tag.image.tail, player.buffer_length) = state
+     tag.image.pages, tag.image.tail, player.buffer_length, tag.data_memory.data) = state
     tag.image.length = sum(map(len, state.pages)) + len(state.tail)

@@ -3,12 +3,14 @@
 from lines.answering import Answering
 from lines.reading import TABLE
 from lines.records import bus_in_words, tag_in_words
+from lines.words import NOT_HOW, BadLine
 from tag.bits import bytes_of
 from tag.calls import EVENTS, Tag
 from tag.frames import SILENCE
 
 HELP = ("commands: image HEX, buffer N, field, frame BITS HEX, parity BITS HEX, "
-        "start, stop, send HH, read ack, read nak, event N HH, show, show HH, tag, bus, help")
+        "start, stop, send HH, read ack, read nak, event N HH, show, show HH, tag, bus, "
+        "memory N, recall HHHH N, help")
 
 
 class Player(Answering):
@@ -75,6 +77,20 @@ class Player(Answering):
 
     def play_bus(self):
         return bus_in_words(self.tag.bus)
+
+    def play_memory(self, length):
+        """"lends every later two-wire event a data memory of N bytes [...], all
+        zeros". Image and records stay as they are."""
+        self.tag.data_memory.lend(length)
+        return f"memory {length}"
+
+    def play_recall(self, first, amount):
+        """"N bytes of the data memory, 1 to 1,024, from byte HHHH on; `error: not
+        how this command is written` where they are not all within it" """
+        data = self.tag.data_memory.data
+        if first + amount > len(data):
+            raise BadLine(NOT_HOW)
+        return written("memory", data[first:first + amount])
 
     def play_help(self):
         return HELP

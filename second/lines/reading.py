@@ -7,6 +7,8 @@ LARGEST_NUMBER = 65535
 LARGEST_IMAGE = 1024
 LARGEST_BUFFER = 1024
 LARGEST_FRAME = 8192
+LARGEST_MEMORY = 16384
+MOST_RECALLED = 1024
 
 
 def number_of(word, largest=LARGEST_NUMBER):
@@ -30,6 +32,26 @@ def buffer_of(word):
     return number_of(word, LARGEST_BUFFER)
 
 
+def memory_of(word):
+    """"a data memory of N bytes, 0 to 16,384" """
+    return number_of(word, LARGEST_MEMORY)
+
+
+def address_of(word):
+    """"HHHH is exactly four hex digits, either case in" """
+    if len(word) != 4:
+        raise BadLine(NOT_HOW)
+    return 256 * byte_of(word[:2]) + byte_of(word[2:])
+
+
+def recalled_of(word):
+    """"N bytes of the data memory, 1 to 1,024" """
+    amount = number_of(word, MOST_RECALLED)
+    if amount == 0:
+        raise BadLine(NOT_HOW)
+    return amount
+
+
 def byte_of(word):
     """"HH is the byte sent", "page HH": a word is never empty, so these are two
     digits."""
@@ -48,7 +70,7 @@ ARGUMENTS = {
     b"image": [image_of], b"buffer": [buffer_of], b"field": [], b"frame": [number_of, frame_of],
     b"parity": [number_of, frame_of], b"start": [], b"stop": [], b"send": [byte_of],
     b"read": [reader_bit_of], b"event": [number_of, byte_of], b"show": [byte_of], b"tag": [],
-    b"bus": [], b"help": [],
+    b"bus": [], b"memory": [memory_of], b"recall": [address_of, recalled_of], b"help": [],
 }
 
 # "`image` alone: none", "`HEX` of a frame may be missing", "`show`" and "`show HH`".

@@ -1,8 +1,10 @@
 """Two wires: events by phase, addresses, stores, reads."""
 
 from rules.naming import PHASES, SIZES, each, kind_of_page
-from tag.bus import WINDOW_START
 from tag.calls import EVENTS
+from tag.regions import WINDOW_START
+
+AMOUNTS = ["1", "2-63", "64", "over-64"]
 
 PHASE_RULES = {}
 for _event in EVENTS:
@@ -13,12 +15,13 @@ RULES = {
     **each("bus.device", ["A0h", "A1h"], "A0h and A1h are acknowledged ({})"),
     **each("bus.device", ["A2h", "A3h", "20h", "21h", "other"],
            "others not, and the tag is then deaf until start or stop ({})"),
-    **each("bus.address", ["4000h", "inside"], "acknowledged exactly if the address is in the window ({})"),
+    **each("bus.address", ["4000h", "inside"],
+           "acknowledged exactly if the address is in the window; Q-1: if it falls in either region ({})"),
     **each("bus.address", [f"last-{size}" for size in SIZES],
            "The window is 4000h to 4000h+4N-1 ({})"),
-    **each("bus.address", ["3FFFh", "below", "above"] + [f"behind-{size}" for size in SIZES],
-           "else deaf with the counter kept ({})"),
-    **each("bus.amount", ["1", "2-63", "64", "over-64"],
+    **each("bus.address", ["above", "7FFFh", "8000h", "C000h", "FFFFh"] + [f"behind-{size}" for size in SIZES],
+           "else deaf with the counter kept; Q-1: acknowledged if it falls in either region, and it doesn't ({})"),
+    **each("bus.amount", AMOUNTS,
            "Stop stores the gathered bytes, latest for each place ({})"),
     "bus.store/rolls-over": "rolling over within the 64-byte page",
     **each("bus.store", [f"last-place-{size}" for size in SIZES], "Stop stores the gathered bytes ({})"),
@@ -36,9 +39,10 @@ RULES = {
     "bus.counter-after-stop/in-window": "the counter becomes the place after the last data byte",
     **each("bus.counter-after-stop", [f"past-window-{size}" for size in SIZES],
            "the counter becomes the place after the last data byte ({})"),
-    **each("bus.read-outside", SIZES, "a counter outside the window counts as 4000h (N = {})"),
+    **each("bus.read-outside", SIZES,
+           "a counter outside the window counts as 4000h; Q-1: A counter in neither region still does (N = {})"),
     **each("bus.last-to-first", SIZES,
-           "each read gives the counter's byte and advances, last to first (N = {})"),
+           "each read gives the counter's byte and advances, last to first; Q-1: stays in its own region (N = {})"),
     **each("bus.zeros-pwd", SIZES, "The PWD and PACK pages read as zeros (N = {})"),
     **each("bus.zeros-pack", SIZES, "The PWD and PACK pages read as zeros (N = {})"),
 }
@@ -51,53 +55,56 @@ def met(step):
         return
     yield f"bus.{step.event}/in-{step.phase}"
     bus = step.before.tag.bus
-    if step.event == "start" and bus.phase == "write":
+    if step.event == "send" and bus.phase == "device":
+        yield "bus.device/" + NAMED_DEVICES.get(step.byte, "other")
+    elif bus.data_memory.has(step.address):
+        return                      # the rules of the data memory are elsewhere
+    elif step.event == "start" and bus.phase == "write":
         yield "bus.start-in-write/" + ("drops-data" if bus.gathered else "no-data-yet")
     elif step.event == "stop":
         yield from of_stop(step, bus)
-    elif step.event == "send" and bus.phase == "device":
-        yield "bus.device/" + NAMED_DEVICES.get(step.byte, "other")
     elif step.event == "send" and bus.phase == "low":
-        yield "bus.address/" + name_of_address(bus, 256 * bus.high + step.byte)
+        yield "bus.address/" + name_of_address(bus, step.address)
     elif step.event.startswith("read") and bus.phase == "read":
         yield from of_read(bus)
 
 
 def name_of_address(bus, address):
-    size, end = bus.image.layout.size, bus.image.layout.window_end
-    edges = {WINDOW_START - 1: "3FFFh", WINDOW_START: "4000h",
-             end - 1: f"last-{size}", end: f"behind-{size}"}
-    if address in edges:
-        return edges[address]
-    return "inside" if bus.in_window(address) else "below" if address < WINDOW_START else "above"
+    size, end = bus.window.image.layout.size, bus.window.image.layout.window_end
+    edges = {WINDOW_START: "4000h", end - 1: f"last-{size}", end: f"behind-{size}",
+             0x7FFF: "7FFFh", 0x8000: "8000h", 0xC000: "C000h", 0xFFFF: "FFFFh"}
+    return edges.get(address, "inside" if bus.window.has(address) else "above")
 
 
 def of_stop(step, bus):
     if bus.gathered:
         yield from of_store(bus)
-        in_window = bus.in_window(step.after.tag.bus.counter)
+        in_window = bus.window.has(step.after.tag.bus.counter)
         yield "bus.counter-after-stop/" + (
-            "in-window" if in_window else f"past-window-{bus.image.layout.size}")
+            "in-window" if in_window else f"past-window-{bus.window.image.layout.size}")
     elif bus.phase == "write":
         yield "bus.counter-after-stop/no-data"
 
 
 def of_store(bus):
     amount = len(bus.gathered)
-    yield "bus.amount/" + ("1" if amount == 1 else "2-63" if amount < 64
-                           else "64" if amount == 64 else "over-64")
+    yield f"bus.amount/{name_of_amount(amount)}"
     if bus.counter % 64 + amount > 64:
         yield "bus.store/rolls-over"
-    locked = bus.image.locked_pages()
+    locked = bus.window.image.locked_pages()
     for place in sorted({bus.place_of(number) for number in range(min(amount, 64))}):
         yield from of_place(bus, place, locked)
 
 
+def name_of_amount(amount):
+    return "1" if amount == 1 else "2-63" if amount < 64 else "64" if amount == 64 else "over-64"
+
+
 def of_place(bus, place, locked):
     """One place that a byte was gathered for."""
-    layout = bus.image.layout
+    layout = bus.window.image.layout
     page, offset = (place - WINDOW_START) // 4, place - WINDOW_START
-    if not bus.in_window(place):
+    if not bus.window.has(place):
         yield f"bus.not-stored/past-window-{layout.size}"
         return
     if offset < 10:
@@ -109,7 +116,7 @@ def of_place(bus, place, locked):
         yield f"bus.store/byte-{offset}"
     if page in locked:
         yield "bus.store/locked-page"
-    if page >= bus.image.auth0():
+    if page >= bus.window.image.auth0():
         yield "bus.store/page-from-AUTH0-on"
     kind = kind_of_page(layout, page)
     if kind in ("lock-page", "settings-1", "settings-2", "pwd", "pack"):
@@ -117,9 +124,9 @@ def of_place(bus, place, locked):
 
 
 def of_read(bus):
-    layout = bus.image.layout
+    layout = bus.window.image.layout
     counter = bus.counter
-    if not bus.in_window(counter):
+    if not bus.window.has(counter):
         yield f"bus.read-outside/{layout.size}"
         counter = WINDOW_START
     page = (counter - WINDOW_START) // 4

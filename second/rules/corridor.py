@@ -1,8 +1,8 @@
 """The rules of `corridor`."""
 
 from lines.reading import TABLE
-from rules import (active, bad_lines, both_sides, bus, counter, lines, locks, password, reads, records,
-                   refusals, returns, selection, waiting, writes)
+from rules import (active, bad_lines, both_sides, bus, counter, lines, locks, memory, memory_lines, password,
+                   reads, records, refusals, returns, selection, waiting, writes)
 from rules.book import Group, RuleBook
 from rules.step import Watched
 
@@ -12,6 +12,8 @@ RETURN_RULES = {**returns.rules_of(TABLE), **returns.limit_rule_of(TABLE)}
 GROUPS = [
     Group("LINES.md: the lines", lines.RULES, lines.met),
     Group("LINES.md: the board in words", records.RULES, records.met),
+    Group("LINES.md: the data memory in lines", {**memory_lines.RULES, **memory_lines.LIMIT_RULES},
+          memory_lines.met),
     Group("LINES.md: carriage returns", RETURN_RULES, returns.met),
     Group("LINES.md: bad lines", bad_lines.RULES, bad_lines.met),
     Group("Numbers for a refused call", refusals.RULES, refusals.met),
@@ -28,6 +30,8 @@ GROUPS = [
     Group("Dynamic locks, N=231", locks.RULES_231, locks.met),
     Group("Two wires: events by phase", bus.PHASE_RULES, bus.met),
     Group("Two wires: addresses, stores, reads", bus.RULES, bus.met),
+    Group("Q-1: events by phase, the counter in the data memory", memory.PHASE_RULES, memory.met),
+    Group("Q-1: the data memory and the window", memory.RULES, memory.met),
     Group("Two sides of one tag", both_sides.RULES, both_sides.met),
 ]
 

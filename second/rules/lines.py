@@ -3,11 +3,12 @@
 from lines.reading import LARGEST_FRAME, LARGEST_IMAGE, LARGEST_NUMBER, LONGEST_LINE
 from rules import skipped
 from rules.naming import each
+from tag.regions import MEMORY_LENGTH
 
 RULES = {
     **each("line", ["image", "image-alone", "buffer", "field", "frame", "frame-without-hex",
                     "parity", "parity-without-hex", "start", "stop", "send", "read-ack",
-                    "read-nak", "show", "show-empty", "show-page", "tag", "bus", "help"],
+                    "read-nak", "show", "show-empty", "show-page", "tag", "bus", "memory", "recall", "help"],
            "the table of lines: {}"),
     **each("line.event", ["0", "1", "2", "3", "4", "other"],
            "`event N HH`: the two-wire event of number N ({})"),
@@ -27,6 +28,8 @@ RULES = {
     "image.resets/radio": "the tag record becomes field off",
     "image.resets/bus": "the bus record at rest with nothing gathered and counter 4000h",
     "image.resets/not-the-buffer": "the buffer's length stays",
+    "image.resets/not-the-memory": "Q-1: An `image` line leaves it as it is",
+    "image.resets/not-the-memory-length": "Q-1: An `image` line leaves it as it is: its length too",
 }
 
 
@@ -36,11 +39,12 @@ def met(step):
     words = step.text.decode("ascii").split(" ")
     yield from of_word(step, words)
     yield from of_limits(step)
-    hex_word = {"image": 1, "frame": 2, "parity": 2, "send": 1, "event": 2, "show": 1}.get(words[0])
+    hex_word = {"image": 1, "frame": 2, "parity": 2, "send": 1, "event": 2, "show": 1, "recall": 1}.get(words[0])
     if hex_word and hex_word < len(words):
         yield from of_hex(words[hex_word])
-    if words[0] in ("buffer", "frame", "parity", "event"):
-        yield from of_number(words[1])
+    number_word = {"buffer": 1, "frame": 1, "parity": 1, "event": 1, "memory": 1, "recall": 2}.get(words[0])
+    if number_word:
+        yield from of_number(words[number_word])
 
 
 def of_word(step, words):
@@ -57,7 +61,7 @@ def of_word(step, words):
         yield "line/show-page"
     elif step.word == "show":
         yield "line/show" if step.image.everything() else "line/show-empty"
-    else:
+    elif not step.answer.startswith(b"error"):
         yield f"line/{step.word}"
 
 
@@ -68,6 +72,10 @@ def of_new_image(before):
         yield "image.resets/bus"
     if before.buffer_length != 1024:
         yield "image.resets/not-the-buffer"
+    if before.tag.data_memory.data.strip(b"\0"):
+        yield "image.resets/not-the-memory"
+    if len(before.tag.data_memory.data) != MEMORY_LENGTH:
+        yield "image.resets/not-the-memory-length"
 
 
 def of_limits(step):

@@ -1,7 +1,7 @@
 """How rules are named.
 
 A rule is a key of the form `stem/leaf` and the sentence it stands for, taken
-from document 01 or from LINES.md.
+from document 01, document 02 ("Q-1: ..") or LINES.md.
 """
 
 

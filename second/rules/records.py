@@ -15,6 +15,8 @@ RULES = {
     "tag/other-length": "`tag` asks for no image of a right length",
     **each("bus.words", PHASES, "the bus record in words ({})"),
     **each("bus.words.counter", ["4000h", "inside", "past-window", "last-place"], "HHHH is the counter ({})"),
+    **each("bus.words.counter", ["0000h", "3FFFh", "memory-inside"], "HHHH is the counter, in the data memory ({})"),
+    **each("bus.words.memory", PHASES, "HHHH is the counter, in the data memory ({})"),
     **each("bus.words.past-window", ["rest", "device", "high", "low", "read", "deaf"],
            "A counter past the window is kept as it is ({})"),
     **each("bus.words.high", ["00h", "below-10h", "40h", "A0h-and-above", "other"],
@@ -73,11 +75,16 @@ def of_bus(tag):
 
 
 def of_counter(bus):
-    if not bus.in_window(bus.counter):
+    if bus.data_memory.has(bus.counter):
+        names = {0x0000: "0000h", 0x3FFF: "3FFFh"}
+        yield f"bus.words.counter/{names.get(bus.counter, 'memory-inside')}"
+        yield f"bus.words.memory/{bus.phase}"
+        return
+    if not bus.window.has(bus.counter):
         yield "bus.words.counter/past-window"
         yield f"bus.words.past-window/{bus.phase}"
         return
-    names = {0x4000: "4000h", bus.image.layout.window_end - 1: "last-place"}
+    names = {0x4000: "4000h", bus.window.image.layout.window_end - 1: "last-place"}
     yield f"bus.words.counter/{names.get(bus.counter, 'inside')}"
 
 
@@ -96,8 +103,14 @@ def of_count(bus):
         yield "bus.words.count/" + ("3-9" if 2 < amount < 10 else "10-62" if 9 < amount < 63 else str(amount))
     if bus.counter % 64 + amount > 64:
         yield "bus.words.count/rolled-over"
-    if any(not bus.in_window(place) or place < 0x400A for place in map(bus.place_of, range(amount))):
+    if any(is_not_stored(bus, place) for place in map(bus.place_of, range(amount))):
         yield "bus.words.count/not-stored"
+
+
+def is_not_stored(bus, place):
+    """Bytes 0-9 and places past the window."""
+    region = bus.region_of(place)
+    return region is None or region is bus.window and place < 0x400A
 
 
 def of_page(image, page):

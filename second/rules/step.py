@@ -73,6 +73,14 @@ class Step(LineStep):
         """The two wires' phase before the step."""
         return self.before.tag.bus.phase
 
+    @property
+    def address(self):
+        """The address that an event is about: the one that its byte makes whole,
+        else the counter."""
+        bus = self.before.tag.bus
+        whole = self.event == "send" and bus.phase == "low"
+        return 256 * bus.high + self.byte if whole else bus.counter
+
     @cached_property
     def command(self):
         """The name and the arguments of a command that a tag in ACTIVE was

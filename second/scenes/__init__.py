@@ -2,13 +2,15 @@
 
 A scene takes a Script, which knows the tag, and adds lines to it. The scenes of
 a part have the name of its rules: refusals, waiting, selection, active, reads,
-writes, locks, password, bus, both_sides, lines, records, returns. Beside them:
+writes, locks, password, bus, memory, both_sides, lines, memory_lines, records,
+returns. Beside them:
 
     dice        random numbers
     text        the lines of a script
     images      the bytes of an image
     script      writes lines while playing along, steers, and looks at the tag;
-                script_radio and script_bus are its two sides
+                script_radio and script_bus are its two sides, script_memory the
+                data memory
     plausible   images and commands as they might be met
     chunks      input that is read by chunks
     walks       everything mixed

@@ -3,10 +3,12 @@
 from rules.naming import PHASES, STATES
 from scenes.bus import bus_write
 from scenes.images import access_byte
+from scenes.memory import memory_write
 
 
 def both_sides(s, size):
-    """Each side stores while the other is anywhere; field loss leaves the bus alone."""
+    """Each side stores while the other is anywhere, the two wires in both regions;
+    field loss leaves the bus alone."""
     dice = s.dice
     s.image(size)
     for phase in dice.shuffled(PHASES):
@@ -23,7 +25,10 @@ def both_sides(s, size):
         bus_write(s, s.any_place(), 2)
     for state in dice.shuffled(STATES):
         s.reach(state)
-        bus_write(s, 0x4010 + dice.below(0x60), dice.between(1, 4))
+        place = 0x10 + dice.below(0x60)
+        bus_write(s, 0x4000 + place, dice.between(1, 4))
+        s.recall(place, 1)              # the first byte is in the window alone
+        memory_write(s, place, dice.between(1, 4))
         s.look_at_radio()
 
 

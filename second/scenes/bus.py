@@ -1,5 +1,6 @@
 """The two wires."""
 
+from rules.memory import EDGES
 from rules.naming import PHASES
 
 
@@ -57,15 +58,16 @@ def device_bytes(s):
 
 
 def addresses(s, size):
-    """The edges of the window; the counter kept or set is then read from."""
+    """The edges of both regions; the counter kept or set is then read from."""
     dice = s.dice
     s.image(size)
     end = s.layout.window_end
-    for address in dice.shuffled([0x4000, 0x3FFF, end - 1, end, end + 1, 0x0000, 0xFFFF,
-                                  dice.below(0x3FFF), dice.between(end + 1, 0xFFFE), s.any_place(),
-                                  s.any_place() ^ 0x8000, s.any_place() % 0x4000]):
-        if not s.bus.in_window(address):
-            s.address(dice.between(0x4010, 0x4060))     # the counter that is then kept
+    for address in dice.shuffled([*EDGES, 0x4000, end - 1, end, end + 1, 0x7FFF, 0x8000, 0xC000, 0xFFFF,
+                                  s.any_place(), s.memory_place(), dice.between(end + 1, 0xFFFE),
+                                  s.any_place() ^ 0x8000, s.memory_place() ^ 0x8000]):
+        if s.bus.region_of(address) is None:
+            # the counter that is then kept
+            s.address(dice.one_of([dice.between(0x4010, 0x4060), s.memory_place()]))
         s.address(address)
         if s.bus.phase == "deaf":
             s.look_at_silent_bus()

@@ -1,7 +1,8 @@
-"""The examples of document 01, as lines, with the answers it gives.
+"""The examples of document 01, and such as document 02 has in words, as lines, with
+the answers they give.
 
 Every example is preceded by a comment line that names it. The answers written
-out here come from the document's words; they are held against the second tag
+out here come from the documents' words; they are held against the second tag
 whenever the examples are made, and a difference stops the making.
 """
 
@@ -240,11 +241,96 @@ def crc_examples(e):
         e.line(f"frame 32 {data}{crc_off_by_a_bit}", NAK1)
 
 
+def memory_rolls_over(e):
+    e.named("Q-1: four bytes sent to 3FFEh land at 3FFEh, 3FFFh, 3FC0h, 3FC1h")
+    image = build_image(45)
+    e.image(image)
+    e.address("3F", "FE")
+    for byte in ("C1", "C2", "C3", "C4"):
+        e.line(f"send {byte}", "ack")
+    e.line("recall 3FFE 2", "memory 0000")
+    e.line("stop", "done")
+    e.line("bus", "bus rest 3FC2")
+    e.line("recall 3FFE 2", "memory C1C2")
+    e.line("recall 3FBE 6", "memory 0000C3C40000")
+    e.line("recall 0000 4", "memory 00000000")
+    e.shows(image)
+
+
+def memory_keeps_nothing_back(e):
+    e.named("Q-1: none of its bytes is kept back; the window keeps bytes 0-9")
+    image = build_image(45)
+    e.image(image)
+    for high in ("00", "40"):
+        e.address(high, "00")
+        for byte in range(0xD0, 0xDC):
+            e.line(f"send {byte:02X}", "ack")
+        e.line("stop", "done")
+    e.line("recall 0000 12", "memory D0D1D2D3D4D5D6D7D8D9DADB")
+    e.shows(changed(image, {10: 0xDA, 11: 0xDB}))
+
+
+def memory_read_rolls(e):
+    e.named("Q-1: a read stays in its own region: 3FFFh is followed by 0000h, 40B3h by 4000h")
+    e.image(build_image(45, pack=[5, 6, 7, 8]))
+    for high, low, first, second, then in [("3F", "FF", "C2", "D0", "0001"), ("40", "B3", "00", "1D", "4001")]:
+        e.address(high, low)
+        e.line("start", "done")
+        e.line("send A1", "ack")
+        e.line("read ack", f"byte {first}")
+        e.line("read nak", f"byte {second}")
+        e.line("bus", f"bus deaf {then}")
+    e.address("3F", "FF")
+    e.line("start", "done")
+    e.line("send A1", "ack")
+    e.line("read nak", "byte C2")
+    e.line("bus", "bus deaf 0000")
+
+
+def either_region(e):
+    e.named("Q-1: 0000h and 3FFFh acknowledged, 40B4h, 8000h and FFFFh not; 40B4h as a counter counts as 4000h")
+    e.image(build_image(45))
+    e.address("40", "B3")
+    e.line("send 00", "ack")
+    e.line("stop", "done")
+    for high, low in [("80", "00"), ("FF", "FF"), ("40", "B4")]:
+        e.address(high, low, "nak")
+        e.line("bus", "bus deaf 40B4")
+    e.line("start", "done")
+    e.line("send A1", "ack")
+    e.line("read nak", "byte 1D")
+    e.line("bus", "bus deaf 4001")
+    e.address("00", "00")
+    e.line("bus", "bus writing 0000 0")
+    e.address("3F", "FF")
+    e.line("bus", "bus writing 3FFF 0")
+
+
+def refused_memory(e):
+    e.named("Q-1: 5, a data memory that isn't 16,384 bytes, after 1 and before 4")
+    e.line("memory 16383", "memory 16383")
+    e.image(build_image(45))
+    e.line("event 5 00", "refused 5")
+    e.line("start", "refused 5")
+    e.wake()
+    e.image([0] * 183)
+    e.line("event 5 00", "refused 1")
+    e.line("stop", "refused 1")
+    e.line("recall 3FFE 1", "memory 00")
+    e.line("recall 3FFE 2", "error: not how this command is written")
+    e.line("memory 16384", "memory 16384")
+    e.line("stop", "refused 1")
+    e.image(build_image(45))
+    e.line("event 5 00", "refused 4")
+    e.line("stop", "done")
+
+
 EXAMPLES = [
     check_bytes, read_rolls_at_size, read_rolls_at_auth0, read_one_page, fast_read_one_page,
     block_bit_holds, page_3_gains, lock_bit_0, counter_at_its_end, password_limit,
     anticollision_of_four_bits, bus_rolls_over, window_end, start_drops, three_frames,
-    crc_examples,
+    crc_examples, memory_rolls_over, memory_keeps_nothing_back, memory_read_rolls, either_region,
+    refused_memory,
 ]
 
 

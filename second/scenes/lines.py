@@ -12,11 +12,13 @@ BAD_LINE_OF_EACH_KIND = [
     b"send 5", b"send 5g", b"event +1 00", b"event 1", b"stop 00", b"read Ack", b"send A0A1",
     b"event 65536 00", b"event 65537 00", b"event 000001 00", b"buffer 1025", b"buffer 65535",
     b"image " + b"5A" * 1025, b"image " + b"5A" * 1026,
-    b"frame 512 " + b"00" * 8193, b"frame 7 " + b"00" * 8194, LONGEST + b"0"]
+    b"frame 512 " + b"00" * 8193, b"frame 7 " + b"00" * 8194, LONGEST + b"0",
+    b"memory 16385", b"memory 65535", b"recall 000 1", b"recall 00000 1", b"recall 0000 0", b"recall 0000 1025",
+    b"recall 0000 1026"]
 
 # Lines that do nothing to the tag, though they are good.
 IDLE_LINES = [b"", b"#", b"# \t\r\0 \xff odd bytes", b"#" + b" long" * 3280, b"help", b"show", b"show 04",
-              b"show 2D", b"tag", b"bus",
+              b"show 2D", b"tag", b"bus", b"recall 0000 4",
               b"buffer 1024", b"buffer 1023", b"buffer 0"]
 
 BAD_LINES = [
@@ -38,18 +40,29 @@ BAD_LINES = [
     b"show 0G", b"show -1", b"show all", b"show 00 01", b"show  00", b"show 00 ", b"show00", b"tag 1", b"tag ",
     b"Tag", b"tags", b"ta", b"tag bus", b"bus 4000", b"bus ", b"BUS", b"buss", b"bu", b"help tag", b"error",
     b"page 00", b"idle", b"nak", b"read", b"hello ", b"hello  there", b"STOP 00 ", b"Send A", b"x\t",
-    b"stop\t 00", b"\xff 00", b"stops \0", b"hello 1 2 3"]
+    b"stop\t 00", b"\xff 00", b"stops \0", b"hello 1 2 3",
+    b"memory", b"memory ", b"memory x", b"memory 0x10", b"memory -1", b"memory 016384", b"memory 16385",
+    b"memory 65536", b"memory 20000", b"memory 0 0", b"memory  0", b"Memory 0", b"memor 0", b"memory0",
+    b"memories 0", b"memory 3FFF", b"recall", b"recall 0000", b"recall 0000 ", b"recall  0000 1",
+    b"recall 0000  1", b"recall 0000 1 1", b"recall 0 1", b"recall 00 1", b"recall 000 1", b"recall 00000 1",
+    b"recall 000000 1", b"recall 000G 1", b"recall 0x00 1", b"recall +000 1", b"recall 0000 0",
+    b"recall 0000 00000", b"recall 0000 -1", b"recall 0000 A", b"recall 0000 1025", b"recall 0000 1026",
+    b"recall 0000 65535", b"recall 0000 65536", b"recall 0000 000001", b"recall 3FFF 2", b"recall 4000 1",
+    b"recall FFFF 2", b"Recall 0000 1", b"RECALL 0000 1", b"recalls 0000 1", b"recal 0000 1", b"recall0000 1",
+    b"recall 0000\t1", b"recall 1 0000"]
 
 # One for each command, with a fault behind the command word.
 WRONG_BEHIND_THE_WORD = [
     b"image 0", b"buffer 1025", b"field 1", b"frame 7 5G", b"parity 65536", b"start ", b"stop 00",
-    b"send A", b"read Ack", b"event 1", b"show 0", b"tag idle", b"bus rest", b"help me"]
+    b"send A", b"read Ack", b"event 1", b"show 0", b"tag idle", b"bus rest", b"memory 16385", b"recall 0000 0",
+    b"help me"]
 
 GOOD_LINES = [
     b"help", b"", b"#", b"# a comment", b"#show", b"# \t\r\0 \xff odd bytes", b"buffer 1024",
     b"buffer 01024", b"frame 00007 52", b"frame 7 26", b"frame 65535", b"frame 65535 00", b"frame 0",
     b"parity 0", b"frame 00000", b"parity 007 26", b"send 0a", b"send aB", b"event 00000 00",
-    b"event 1 ff", b"event 03 00", b"event 4 00", b"show", b"show 2c", b"show 2D", b"show fF", b"tag", b"bus"]
+    b"event 1 ff", b"event 03 00", b"event 4 00", b"show", b"show 2c", b"show 2D", b"show fF", b"tag", b"bus",
+    b"recall 0000 1", b"recall 3FFF 01", b"recall 1aBc 00002", b"recall 3ff8 8"]
 
 
 def odd_lines(s, amount):
@@ -146,12 +159,15 @@ def spoiled_lines(s, amount):
     for _ in range(amount):
         line = dice.one_of([b"frame 7 52", b"read ack", b"read nak", b"send A0", b"event 2 A0", b"stop",
                             b"start", b"buffer 1024", b"help", b"field", b"parity 16 9320", b"tag", b"bus",
-                            b"show 04", b"stop\r", b"send A1\r"])
+                            b"show 04", b"stop\r", b"send A1\r", b"recall 0000 4", b"memory 16384"])
         place = dice.below(len(line) + 1)
         put = bytes([dice.one_of([0x20, 0x09, 0x30, 0x41, 0x61, 0x67, 0x0D, dice.byte()])])
         put = b"" if put == b"\n" else put
         s.say(line[:place] + put + line[place + dice.below(2):])
+        if len(s.data_memory) != 16384:
+            s.usual_memory()
     s.usual_buffer()
+    s.usual_memory()
 
 
 def any_spoiled_lines(s):

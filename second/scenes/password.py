@@ -28,12 +28,23 @@ def wrong_passwords(s):
         s.image(45, failed=5)
         password = list(s.password())
         password[place] ^= 1 << s.dice.below(8)
-        s.active()
+        s.reach("ACTIVE", "HALT" if place % 2 else "IDLE")
         s.command(0x1B, *password)
         s.say("show")
         s.active(authenticated=True)
         s.command(0x1B, *password)
         s.active()
+
+
+def counted_passwords(s):
+    """A password that is wrong in one byte, with AUTHLIM 7: each is counted."""
+    s.image(45, failed=1, access=access_byte(prot=1, counter_on=1, authlim=7))
+    for place in range(4):
+        password = list(s.password())
+        password[place] ^= 1 << s.dice.below(8)
+        s.active()
+        s.command(0x1B, *password)
+        s.say("show 2D")
 
 
 def last_chances(s):
@@ -79,6 +90,7 @@ def leaving_active(s, size):
 
 def stored(s):
     wrong_passwords(s)
+    counted_passwords(s)
     last_chances(s)
     for authlim in range(8):
         for failed in (0, max(authlim - 1, 0), authlim, authlim + 1):
@@ -89,5 +101,5 @@ def stored_of_size(s, size):
     leaving_active(s, size)
 
 
-OF_ANY_KIND = [wrong_passwords, last_chances, any_passwords, any_passwords]
+OF_ANY_KIND = [wrong_passwords, counted_passwords, last_chances, any_passwords, any_passwords]
 OF_ANY_SIZE = [leaving_active]

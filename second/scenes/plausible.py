@@ -40,6 +40,7 @@ def random_image(s):
     """Nothing but dice."""
     s.usual_buffer()
     s.raw_image(s.dice.bytes(s.dice.one_of(list(LAYOUTS))))
+    s.usual_memory()
 
 
 def any_image(s):

@@ -76,6 +76,7 @@ def counting(s, size, value, under_password):
     for command in (first, second):
         s.active(authenticated=under_password)
         s.command(*command)
+        s.say("tag")                    # at FFFFFFh nothing else shows that it was the first
         s.command(0x39, 0x02)
     s.look_at_radio()
     s.command(0x50, 0x00)

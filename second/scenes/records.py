@@ -28,7 +28,8 @@ def every_tag_record(s):
 
 def tag_after_each_step(s):
     """`tag` after each frame of a way through all states, and after each kind of
-    answer: it shows what the step made of the record, and when."""
+    answer: it shows what the step made of the record, and when. It is asked while
+    a low address byte is expected, too."""
     s.image(45)
     for wait in ("IDLE", "HALT"):
         s.to_waiting(wait)
@@ -39,6 +40,10 @@ def tag_after_each_step(s):
                      [0xA2, 4, *s.dice.four()], [0x30, 45]):
             s.command(*data)
             s.ask()
+        for line in ("start", "send A0", "send 3F"):
+            s.say(line)
+        s.ask_twice()
+        s.say("stop")
         s.active(authenticated=True)
         s.command(0x50, 0x00)
         s.ask()
@@ -54,15 +59,30 @@ def every_bus_record(s, size):
     end = s.layout.window_end
     for place, amount in [(0x4000, 0), (s.dice.between(0x4010, 0x4090), 3), (end - 1, 0), (end - 1, 1),
                           (end - 2, 4)]:
-        for phase in s.dice.shuffled(PHASES):
-            s.address(place)
-            s.send(*s.dice.bytes(amount))
-            s.stop()
-            s.to_phase(phase)
-            s.reach("HALT")
-            s.ask_twice()
-            s.authenticate()
-            s.ask_twice()
+        in_each_phase(s, place, amount)
+
+
+def in_each_phase(s, place, amount, write=None):
+    """`bus` in each phase, after a write of so many bytes to a place; the write
+    that is then going on is to another."""
+    for phase in s.dice.shuffled(PHASES):
+        s.address(place)
+        s.send(*s.dice.bytes(amount))
+        s.stop()
+        s.to_phase(phase, write)
+        if phase == "write" and write is not None:
+            s.send(s.dice.byte())
+        s.reach("HALT")
+        s.ask_twice()
+        s.authenticate()
+        s.ask_twice()
+
+
+def every_bus_record_in_memory(s):
+    """`bus` in each phase, with the counter at each end of the data memory and in it."""
+    s.image(45)
+    for place, amount in [(0x0000, 0), (0x3FFF, 0), (s.dice.between(0x0010, 0x3F00), 2)]:
+        in_each_phase(s, place, amount, place)
 
 
 def high_bytes(s):
@@ -78,12 +98,13 @@ def high_bytes(s):
             s.ask()
 
 
-def counts_of_places(s, place, most):
+def counts_of_places(s, place, most, state="ACTIVE"):
     """`bus` while more and more bytes are gathered: it counts places, so that it
     ends at 64, wherever in its page the write began and whatever is stored of it."""
     s.image(45)
-    s.reach("ACTIVE", "HALT")
-    s.authenticate()
+    s.reach("HALT")
+    if state == "ACTIVE":
+        s.authenticate()
     s.address(place)
     for amount in range(most + 1):
         if amount in COUNTS_ASKED:
@@ -96,7 +117,7 @@ def counts_of_places(s, place, most):
 
 def any_counts(s):
     most = s.dice.one_of([s.dice.between(3, 80), s.dice.between(60, 300)])
-    counts_of_places(s, 0x4000 + s.dice.below(0xB4), most)
+    counts_of_places(s, s.dice.one_of([0x4000 + s.dice.below(0xB4), s.dice.below(0x4000)]), most)
 
 
 def bus_after_each_step(s, size):
@@ -176,8 +197,10 @@ def stored(s):
     every_tag_record(s)
     tag_after_each_step(s)
     high_bytes(s)
+    every_bus_record_in_memory(s)
     for place, most in [(0x4040, 257), (0x4000, 66), (0x40B0, 66), (0x407F, 65)]:
         counts_of_places(s, place, most)
+    counts_of_places(s, 0x3FFE, 65, "HALT")
     shown_at_once(s)
     parts_of_pages(s)
     questions_in_any_state(s)
@@ -189,7 +212,7 @@ def stored_of_size(s, size):
     shown_pages(s, size)
 
 
-OF_ANY_KIND = [every_tag_record, tag_after_each_step, high_bytes, any_counts, shown_at_once,
-               questions_in_any_state]
+OF_ANY_KIND = [every_tag_record, tag_after_each_step, high_bytes, every_bus_record_in_memory, any_counts,
+               shown_at_once, questions_in_any_state]
 OF_ANY_SIZE = [every_bus_record, bus_after_each_step, shown_pages]
 RARE = [parts_of_pages]

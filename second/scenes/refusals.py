@@ -1,4 +1,4 @@
-"""The four refusals."""
+"""The refusals of document 01."""
 
 from rules.naming import PHASES, STATES
 from scenes.plausible import plausible_image
@@ -17,6 +17,8 @@ def refused_by_image(s):
         s.to_phase(dice.one_of(PHASES))
         s.say(f"buffer {dice.one_of([0, 1, 1023, 1024])}")
         s.raw_image(dice.bytes(length))
+        if dice.one_in(3):
+            s.say(f"memory {dice.one_of([0, 16383, dice.below(16384)])}")
         s.frame(WUPA)
         s.ask()
         s.say(dice.one_of(["frame 0", "frame 7 A6", "parity 8"]))
@@ -86,7 +88,9 @@ def refused_frames_one_by_one(s):
 def before_any_image(s):
     """1, before the first `image` line: "the image is empty"."""
     for line in ("show", "frame 7 52", "start", "send A0", "read ack", "read nak", "stop", "event 5 00",
-                 "field", "parity 0", "show", "tag", "bus", "show 00", "show FF", "tag", "bus"):
+                 "field", "parity 0", "show", "tag", "bus", "show 00", "show FF", "tag", "bus",
+                 "recall 0000 2", "recall 3FFF 1", "recall 4000 1", "memory 3", "start", "event 5 00", "bus",
+                 "recall 0000 3", "recall 0001 3", "memory 16384", "stop", "recall 3FFF 1", "bus"):
         s.say(line)
 
 

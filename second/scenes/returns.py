@@ -34,7 +34,8 @@ def each_command(s):
     for line in ("start", "send A0", "event 2 40", "send 1f", "send 5A", "read ack", "stop", "start", "send A1",
                  "read ack", "read nak", "event 00001 00", "frame 7 52", "frame 0", "parity 16 9320", "field",
                  "parity 7 26", "field", "buffer 1000", "frame 7 52", "buffer 1024", "show", "show 04", "tag",
-                 "bus", "help", "image 0102030405", "show", "show 01", "image", "show"):
+                 "bus", "recall 0000 4", "memory 99", "recall 0062 1", "memory 16384", "help",
+                 "image 0102030405", "show", "show 01", "image", "show"):
         s.say(line + "\r")
         s.ask()
 

@@ -7,12 +7,13 @@ locks, and can steer: to ACTIVE, into HALT, into any phase of the two wires.
 from lines.player import Player
 from scenes.images import access_byte, build_image
 from scenes.script_bus import BusLines
+from scenes.script_memory import MemoryLines
 from scenes.script_radio import RadioLines
 from scenes.text import Text
 from tag.frames import REQA
 
 
-class Script(Text, RadioLines, BusLines):
+class Script(Text, RadioLines, BusLines, MemoryLines):
     """Lines, and the second tag that has played them."""
 
     def __init__(self, seed):
@@ -65,13 +66,15 @@ class Script(Text, RadioLines, BusLines):
         self.say(f"image {digits}" if digits else "image")
 
     def take_leave(self):
-        """Shows how both sides stand, and the image with its tail."""
+        """Shows how both sides stand, the image with its tail, and some of the
+        data memory."""
         self.ask()
         if self.layout and self.player.buffer_length == 1024:
             self.look_at_radio()
         if self.layout:
             self.look_at_bus()
         self.say("show")
+        self.recall_stored()
 
     def usual_buffer(self):
         """A buffer that is long enough; one that isn't is shown to be too short."""
@@ -80,7 +83,8 @@ class Script(Text, RadioLines, BusLines):
             self.say("buffer 1024")
 
     def image(self, size, **wishes):
-        """An image of random contents, with what is wished for; frames are taken.
+        """An image of random contents, with what is wished for; frames and events
+        are taken, and the data memory isn't all zeros.
 
         Unless said, the counter is on and the last page is under password, so
         that a READ over the border shows whether the tag is authenticated, and
@@ -95,3 +99,4 @@ class Script(Text, RadioLines, BusLines):
         wishes.setdefault("counter", dice.below(2 ** 20))
         self.raw_image(build_image(size, uid=dice.bytes(7), user=lambda page: dice.four(), **wishes))
         self.usual_buffer()
+        self.usual_memory()

@@ -79,8 +79,27 @@ class BusLines:
             0x4000 + 64 * self.dice.below((end - 0x4000) // 64) + 63 - self.dice.below(4),
             0x4000 + self.dice.below(end - 0x4000)])
 
-    def to_phase(self, phase):
-        """Brings the two wires into a phase."""
+    def memory_place(self):
+        """An address in the data memory, often at one of its edges, or where the
+        window's bytes would be."""
+        dice = self.dice
+        return dice.one_of([dice.below(16), 0x3FFF - dice.below(24), 64 * dice.below(256) + 63 - dice.below(4),
+                            self.any_place() - 0x4000, dice.below(0x4000)])
+
+    def outer_place(self):
+        """An address in neither region."""
+        dice = self.dice
+        return dice.one_of([self.layout.window_end + dice.below(64), 0x4400, 0x7FFF, 0x8000 ^ self.any_place(),
+                            0x8000 ^ self.memory_place(), 0xC000 ^ self.memory_place(), 0xFFFF])
+
+    def any_address(self):
+        """In the window as often as in the data memory; now and then in neither."""
+        if self.dice.one_in(20):
+            return self.outer_place()
+        return self.any_place() if self.dice.one_in(2) else self.memory_place()
+
+    def to_phase(self, phase, place=None):
+        """Brings the two wires into a phase; the place is that of a write."""
         if phase == "rest":
             self.stop()
             return
@@ -90,6 +109,6 @@ class BusLines:
         elif phase == "read":
             self.send(0xA1)
         elif phase in ("high", "low", "write"):
-            place = self.any_place()
+            place = self.any_place() if place is None else place
             steps = {"high": 0, "low": 1, "write": 2}[phase]
             self.send(*[0xA0, place // 256, place % 256][:1 + steps])

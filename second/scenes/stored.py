@@ -6,16 +6,16 @@ fresh script draws from, `OF_ANY_KIND`, `OF_ANY_SIZE`, and `RARE`, which are lon
 """
 
 from rules.naming import SIZES
-from scenes import (active, both_sides, bus, chunks, lines, locks, password, reads, records, refusals, returns,
-                    selection, waiting, writes)
+from scenes import (active, both_sides, bus, chunks, lines, locks, memory, memory_lines, password, reads, records,
+                    refusals, returns, selection, waiting, writes)
 from scenes.chunks import many_turns
 from scenes.examples import example_lines
 from scenes.refusals import before_any_image
 from scenes.script import Script
 from scenes.walks import any_walk
 
-PARTS = [lines, refusals, waiting, selection, active, reads, writes, locks, password, bus, both_sides, chunks,
-         records, returns]
+PARTS = [lines, refusals, waiting, selection, active, reads, writes, locks, password, bus, both_sides, memory,
+         memory_lines, chunks, records, returns]
 STORED_WALKS = 30
 
 

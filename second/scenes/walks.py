@@ -53,7 +53,7 @@ def bus_step(s):
     """An event that fits the phase, or any."""
     dice = s.dice
     phase = s.bus.phase
-    place = s.any_place()
+    place = s.any_address()
     fitting = {"rest": (0, 0), "deaf": (dice.one_of([0, 1]), 0),
                "device": (2, dice.one_of([0xA0, 0xA0, 0xA1])), "high": (2, place // 256),
                "low": (2, place % 256), "write": (dice.one_of([2, 2, 2, 2, 0, 1]), dice.byte()),
@@ -85,12 +85,26 @@ def walk(s, steps):
             s.say("show")
         elif kind == 5:
             s.say(f"show {dice.one_of([dice.byte(), dice.below(s.layout.size + 2)]):02X}")
+        elif kind == 6:
+            s.recall_stored()
+        elif kind == 7 and dice.one_in(3):
+            other_memory(s)
         elif kind < 14:
             s.say(dice.one_of(["tag", "bus"]))
         elif dice.below(10) < bus_share:
             bus_step(s)
         else:
             radio_step(s)
+
+
+def other_memory(s):
+    """A memory of another length, at which events are refused and frames aren't."""
+    dice = s.dice
+    s.say(f"memory {dice.one_of([0, 16383, dice.below(16384), 16384])}")
+    for _ in range(dice.between(1, 3)):
+        dice.one_of([bus_step, bus_step, radio_step])(s)
+    s.recall(dice.below(0x4000), dice.between(1, 8))
+    s.usual_memory()
 
 
 def radio_step_refused(s):

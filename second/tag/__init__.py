@@ -1,13 +1,14 @@
 """The corridor tag, told a second time.
 
 Document 01 ("Build specification and rules: the corridor tag") decides what
-the tag does; sentences in quotation marks are taken from it. This second
-opinion leans on nothing but that document: bits are lists of 0 and 1 with the
+the tag does, and document 02 ("Requests from the schools' year") amends it:
+so far Q-1. Sentences in quotation marks are taken from them. This second
+opinion leans on nothing but these documents: bits are lists of 0 and 1 with the
 least significant first, pages are four bytes each, and locks are sets of page
 numbers. What is kept from call to call is plain values, replaced and never
 changed in place.
 
-    calls       the whole tag: its three calls, with the four refusals
+    calls       the whole tag: its three calls, with the five refusals
     refusal     what a refused call gives
     bits        bits, bytes, CRC_A
     locks       which bit locks which pages, and which bit blocks it
@@ -21,5 +22,6 @@ changed in place.
     reads       READ, FAST_READ, READ_CNT
     writes      WRITE
     password    PWD_AUTH
+    regions     what the two wires reach: the data memory and the window
     bus         the two wires: one method for each phase
 """

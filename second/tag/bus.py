@@ -1,6 +1,6 @@
 """The two wires."""
 
-WINDOW_START = 0x4000
+from tag.regions import WINDOW_START, Window
 
 
 class Bus:
@@ -11,16 +11,19 @@ class Bus:
     the data bytes of an unfinished write, which begins at the counter.
     """
 
-    def __init__(self, image):
-        self.image = image
+    def __init__(self, image, data_memory):
+        self.window, self.data_memory = Window(image), data_memory
         self.phase = "rest"
         self.counter = WINDOW_START
         self.high = None
         self.gathered = ()
 
-    def in_window(self, address):
-        """"The window is 4000h to 4000h+4N-1." """
-        return WINDOW_START <= address < self.image.layout.window_end
+    def region_of(self, address):
+        """The region that an address is in, or None where it is in neither."""
+        for region in (self.data_memory, self.window):
+            if region.has(address):
+                return region
+        return None
 
     def place_of(self, number):
         """Where data byte `number` of this write belongs.
@@ -48,13 +51,13 @@ class Bus:
         self.phase = "rest"
 
     def store(self):
-        """"the gathered bytes, latest for each place, except image bytes 0-9
-        and places past the window"; "Locks and password don't bind this side." """
-        for number, byte in enumerate(self.gathered):
-            place = self.place_of(number)
-            offset = place - WINDOW_START
-            if offset >= 10 and self.in_window(place):
-                self.image.replace_byte(offset, byte)
+        """"the gathered bytes, latest for each place, except [...] places past
+        the window"; document 02, Q-1: "Each transfer touches one region". The
+        address sent decides which: a page lies on one side of 4000h."""
+        latest = {self.place_of(number): byte for number, byte in enumerate(self.gathered)}
+        if latest:
+            region = self.region_of(self.counter)
+            region.store({place: byte for place, byte in latest.items() if region.has(place)})
 
     def send(self, byte):
         """A byte sent; True if it is acknowledged."""
@@ -82,9 +85,10 @@ class Bus:
 
     def send_low(self, byte):
         """"low acknowledged exactly if the address is in the window, setting
-        the counter, else deaf with the counter kept" """
+        the counter, else deaf with the counter kept"; document 02, Q-1: "A low
+        address byte is acknowledged if it falls in either region." """
         address = 256 * self.high + byte
-        if not self.in_window(address):
+        if self.region_of(address) is None:
             self.phase = "deaf"
             return False
         self.counter = address
@@ -108,12 +112,12 @@ class Bus:
 
     def byte_at_counter(self):
         """"After A1h each read gives the counter's byte and advances, last to
-        first; a counter outside the window counts as 4000h. The PWD and PACK
-        pages read as zeros." """
-        if not self.in_window(self.counter):
+        first; a counter outside the window counts as 4000h." Document 02, Q-1:
+        "A sequential read stays in its own region", "A counter in neither region
+        still counts as 4000h." """
+        if self.region_of(self.counter) is None:
             self.counter = WINDOW_START
-        page, place = divmod(self.counter - WINDOW_START, 4)
-        self.counter += 1
-        if self.counter == self.image.layout.window_end:
-            self.counter = WINDOW_START
-        return self.image.shown(page)[place]
+        region = self.region_of(self.counter)
+        byte = region.shown(self.counter)
+        self.counter = region.after(self.counter)
+        return byte

@@ -7,6 +7,7 @@ from tag.frames import Frame
 from tag.image import Image
 from tag.radio import Radio
 from tag.refusal import Refused
+from tag.regions import MEMORY_LENGTH, DataMemory
 from tag.selection import in_ready
 from tag.waiting import in_halt, in_idle
 
@@ -18,16 +19,19 @@ IN_STATE = {"IDLE": in_idle, "HALT": in_halt, "READY1": in_ready, "READY2": in_r
 
 
 class Tag:
-    """"Two sides of one tag": one image, a radio side and two wires."""
+    """"Two sides of one tag": one image, a radio side and two wires; and the data
+    memory of document 02, Q-1, "lent as a second buffer". "the radio cannot reach
+    the new memory": it isn't given it."""
 
     def __init__(self):
+        self.data_memory = DataMemory()
         self.take_image(b"")
 
     def take_image(self, data):
         """A new image; both records begin anew."""
         self.image = Image(data)
         self.radio = Radio(self.image)
-        self.bus = Bus(self.image)
+        self.bus = Bus(self.image, self.data_memory)
 
     def lose_field(self):
         """"Field loss gives IDLE"; the two wires don't notice."""
@@ -51,6 +55,10 @@ class Tag:
         if self.image.layout is None:
             # 1: "image length isn't 184, 544 or 928"
             raise Refused(1)
+        if len(self.data_memory.data) != MEMORY_LENGTH:
+            # 5: "bus call with a data memory that isn't 16,384 bytes, after 1 and
+            # before 4"
+            raise Refused(5)
         if number >= len(EVENTS):
             # 4: "bus call: event isn't one of the five"
             raise Refused(4)

@@ -14,6 +14,8 @@ get another answer from each of them than from the right one.
     slips       wrong by slip: one slip in the source of a program or of its lines
     by_slip     the wrong programs of each slip, and how they are played
     by_hand     wrong by hand: mistakes of a tag that are more than a slip
+    by_hand_memory
+                mistakes about the data memory and its lines
     by_hand_lines
                 mistakes in reading lines, in both programs
     readers     wrong by reading: input that comes in chunks, read wrongly

@@ -7,7 +7,9 @@ the text that takes its place. Those of `workshop` are in the package of that na
 
 from lines.reading import LONGEST_LINE
 from wrong.by_hand_lines import of_lines
+from wrong.by_hand_memory import OF_MEMORY, OF_MEMORY_LINES
 
+NEW_BUS = "self.bus = Bus(self.image, self.data_memory)"
 PAGE_SHOWN = "image[4 * page:4 * page + 4]"
 PLACES = "len({bus.place_of(number) for number in range(len(bus.gathered))})"
 SELECT = "bits == with_crc([code, 0x70] + five)"
@@ -61,19 +63,21 @@ BY_HAND = {
         "tag.bus", "page + (self.counter + number) % 64", "self.counter + number"),
     "a read without ACK goes on reading": (
         "tag.bus", 'if not acknowledged:\n            # "A read without ACK makes the tag deaf."\n'
-        '            self.phase = "deaf"\n', ""),
+        '            self.phase = "deaf"\n', "pass\n"),
     "locked pages are bound on the two wires": (
-        "tag.bus", "offset >= 10 and", "offset >= 10 and offset // 4 not in self.image.locked_pages() and"),
+        "tag.regions", "if offset >= 10:", "if offset >= 10 and offset // 4 not in self.image.locked_pages():"),
     "a field loss stops the two wires": (
         "tag.calls", "self.radio.field_off()", "self.radio.field_off()\n        self.bus.stop()"),
     "an `image` line keeps the bus counter": (
-        "tag.calls", "self.bus = Bus(self.image)",
+        "tag.calls", NEW_BUS,
         "counter = self.bus.counter if 'bus' in vars(self) else 0x4000\n"
-        "        self.bus = Bus(self.image)\n        self.bus.counter = counter"),
+        f"        {NEW_BUS}\n        self.bus.counter = counter"),
     "an `image` line sets the buffer's length back": (
         "lines.player", "self.tag.take_image(data)\n",
         "self.tag.take_image(data)\n        self.buffer_length = 1024\n"),
+    **OF_MEMORY,
     **of_lines(LONGEST_LINE),
+    **OF_MEMORY_LINES,
     "`show HH` hides PWD and PACK": (
         "lines.player", PAGE_SHOWN,
         PAGE_SHOWN + " if not self.tag.image.layout or page >= self.tag.image.layout.size"
@@ -91,10 +95,10 @@ BY_HAND = {
     "`bus` counts places modulo 64": ("lines.records", PLACES, "len(bus.gathered) % 64"),
     "`bus` counts the places that are stored": (
         "lines.records", PLACES, "len({place for place in map(bus.place_of, range(len(bus.gathered)))"
-        " if place >= 0x400A and bus.in_window(place)})"),
+        " if bus.data_memory.has(place) or place >= 0x400A and bus.window.has(place)})"),
     "`bus` tells a counter past the window as 4000h": (
         "lines.records", 'f"{bus.counter:04X}"',
-        'f"{bus.counter if bus.image.layout and bus.in_window(bus.counter) else 0x4000:04X}"'),
+        'f"{bus.counter if bus.window.image.layout and bus.region_of(bus.counter) else 0x4000:04X}"'),
     "`bus` tells the next place of a write": (
         "lines.records", 'f"{bus.counter:04X}"', 'f"{bus.place_of(len(bus.gathered)):04X}"'),
     "`tag` tells ` answered` only of a tag that is awake": (

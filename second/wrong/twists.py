@@ -8,7 +8,9 @@ keeps it, or change it otherwise. A part is touched only where it means
 something: an address byte while the low one is expected, and so on.
 """
 
-from tag.bus import WINDOW_START
+from functools import cache
+
+from tag.regions import MEMORY_LENGTH, WINDOW_START
 
 AWAKE = ("READY1", "READY2", "ACTIVE")
 NOT_LISTENING = ("rest", "deaf")
@@ -153,22 +155,85 @@ def gathers_all_the_same(step, before, after):
     return after._replace(gathered=after.gathered + (step.byte,))
 
 
+def gathered_for(before, after):
+    """What is gathered before or after a step, by place; a write begins at the
+    counter."""
+    gathered = max(before.gathered, after.gathered, key=len)
+    page = before.counter // 64 * 64
+    return {page + (before.counter + number) % 64: byte for number, byte in enumerate(gathered)}
+
+
 def stores_all_the_same(step, before, after):
     """The gathered bytes are stored: without a stop, or at places where none is."""
-    gathered = max(before.gathered, after.gathered, key=len)
-    if step.event is None or not gathered:
+    if step.event is None or not gathered_for(before, after):
         return None
     image = [byte for page in after.pages for byte in page] + list(after.tail)
-    for number, byte in enumerate(gathered):
-        offset = before.counter // 64 * 64 + (before.counter + number) % 64 - WINDOW_START
-        if 0 <= offset < len(image):
-            image[offset] = byte
+    for place, byte in gathered_for(before, after).items():
+        if 0 <= place - WINDOW_START < len(image):
+            image[place - WINDOW_START] = byte
     pages = tuple(tuple(image[at:at + 4]) for at in range(0, len(image), 4))
     changed = after._replace(pages=pages[:-1], tail=pages[-1])
     return changed if changed != after else None
 
 
+def with_stored(state, latest):
+    """The state with these bytes in the data memory; None where that is no change."""
+    data = bytearray(state.data_memory)
+    for place, byte in latest.items():
+        data[place] = byte
+    return state._replace(data_memory=bytes(data)) if data != state.data_memory else None
+
+
+def memory_stores_all_the_same(step, before, after):
+    """What is gathered for the data memory is stored without a stop."""
+    if step.event is None or before.counter >= WINDOW_START:
+        return None
+    return with_stored(after, gathered_for(before, after))
+
+
+def stores_in_memory_too(step, before, after):
+    """What a stop stores in the window, or drops, is stored in the memory too."""
+    if step.event != "stop" or before.counter < WINDOW_START:
+        return None
+    return with_stored(after, {place % WINDOW_START: byte
+                               for place, byte in gathered_for(before, after).items()})
+
+
+def stores_in_window_too(step, before, after):
+    """What a stop stores in the memory is stored in the image too, as far as it goes."""
+    if step.event != "stop" or before.counter >= WINDOW_START:
+        return None
+    return stores_all_the_same(step, before._replace(counter=before.counter + WINDOW_START), after)
+
+
+def counter_in_the_other_region(step, before, after):
+    """The address counter goes to the same place of the other region."""
+    if after.counter != before.counter or after.counter >= 2 * WINDOW_START:
+        return None
+    return after._replace(counter=after.counter ^ WINDOW_START)
+
+
 # ---- The lines
+
+@cache
+def zeros(length):
+    return bytes(length)
+
+
+def memory_cleared(step, before, after):
+    """The data memory is all zeros, where it should stay as it is."""
+    data = after.data_memory
+    if data is not before.data_memory or data == zeros(len(data)):
+        return None
+    return after._replace(data_memory=zeros(len(data)))
+
+
+def memory_set_back(step, before, after):
+    """The data memory has the right length again, where it should have another."""
+    if len(after.data_memory) == MEMORY_LENGTH or len(before.data_memory) != len(after.data_memory):
+        return None
+    return after._replace(data_memory=zeros(MEMORY_LENGTH))
+
 
 def buffer_set_back(step, before, after):
     """The buffer has its first length again."""
@@ -212,6 +277,10 @@ BUS = {
     "gathers all the same": gathers_all_the_same,
     "stored left": left("pages"),
     "stores all the same": stores_all_the_same,
+    "memory stores all the same": memory_stores_all_the_same,
+    "stores in the memory too": stores_in_memory_too,
+    "stores in the window too": stores_in_window_too,
+    "counter in the other region": counter_in_the_other_region,
 }
 
 def nothing_done(step, before, after):
@@ -224,4 +293,7 @@ READING = {"nothing done": nothing_done}
 LINES = {
     "buffer left": left("buffer_length"),
     "buffer set back": buffer_set_back,
+    "memory left": left("data_memory"),
+    "memory cleared": memory_cleared,
+    "memory set back": memory_set_back,
 }

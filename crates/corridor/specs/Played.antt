@@ -1,9 +1,9 @@
 -- What the corridor program does with a line: the table of the lines, over the definitions of the tag. Assumes nothing.
 use Prim.Native.Nat.{ℕ, _+_}
-use mathlib.Core.Bool.{Bool, true, false, cond}
+use mathlib.Core.Bool.{Bool, true, false, cond, _&&_}
 use mathlib.Core.List.{List, [], _∷_}
-use lib.Dec.{eqb}
-use lib.ListN.{length, getD}
+use lib.Dec.{eqb, leb, ltb}
+use lib.ListN.{length, take, drop, getD, replicate}
 use Rattle.tag.specs.Outcome.{Reply, bitsOf, answerOf, apply}
 use Rattle.tag.specs.declared.state.Wait.{Wait}
 use Rattle.tag.specs.declared.state.Wait.the-variants.{ToIdle, ToHalt}
@@ -18,6 +18,7 @@ use Rattle.two_wire.specs.declared.record.BusRecord.{BusRecord}
 use Rattle.two_wire.specs.declared.answer.BusAnswer.{BusAnswer}
 use Rattle.two_wire.specs.declared.record.Phase.{Phase}
 use Rattle.two_wire.specs.declared.record.Phase.the-variants.{Rest, Device, High, Low, Writing, Reading, Deaf}
+use Rattle.two_wire.specs.Region.{both, memoryLength}
 use Rattle.two_wire.specs.Record.{phaseOf, atRest}
 use Rattle.two_wire.specs.Gathered.{gathered}
 use Rattle.two_wire.specs.Answer as wires
@@ -37,12 +38,18 @@ use Rattle.lines.specs.Told.{Told, pageIn, partsOf}
 pub record Board : Type 0 where
   pub image : List ℕ
   pub lent : ℕ
+  pub memory : List ℕ
   pub tag : TagRecord
   pub bus : BusRecord
 
--- "Before the first `image` line the image is empty"; the buffer has "at the start 1,024" bytes
+-- bytes of a data memory, "all zeros"
+unfoldable pub zeros : ℕ → List ℕ
+zeros n = replicate n 0
+
+-- "Before the first `image` line the image is empty"; the buffer has "at the start 1,024" bytes; Q-1: the data memory has zeros, "at the start
+-- 16,384 of them"
 abbrev pub opening : Board
-opening = record { image = []; lent = 1024; tag = recordOf fieldOff; bus = atRest }
+opening = record { image = []; lent = 1024; memory = zeros memoryLength; tag = recordOf fieldOff; bus = atRest }
 
 -- the board that a line leaves, and its answer
 pub record Played : Type 0 where
@@ -50,20 +57,27 @@ pub record Played : Type 0 where
   pub told : Told
 
 -- "takes this image ..; the tag record becomes field off, the bus record at rest with nothing gathered and counter 4000h; the buffer's
--- length stays"
+-- length stays"; Q-1: "An `image` line leaves it as it is."
 unfoldable pub takes : Board → List ℕ → Played
 takes b xs = record {
-  board = record { image = xs; lent = b .lent; tag = recordOf fieldOff; bus = atRest };
+  board = record { image = xs; lent = b .lent; memory = b .memory; tag = recordOf fieldOff; bus = atRest };
   told = told.taken (length xs);
 }
 
 -- "lends every later frame an answer buffer of N bytes"
 unfoldable pub lends : Board → ℕ → Played
-lends b n = record { board = record { image = b .image; lent = n; tag = b .tag; bus = b .bus }; told = told.lent n }
+lends b n = record { board = record { image = b .image; lent = n; memory = b .memory; tag = b .tag; bus = b .bus }; told = told.lent n }
+
+-- Q-1: "lends every later two-wire event a data memory of N bytes, 0 to 16,384, all zeros"
+unfoldable pub lendsMemory : Board → ℕ → Played
+lendsMemory b n = record {
+  board = record { image = b .image; lent = b .lent; memory = zeros n; tag = b .tag; bus = b .bus };
+  told = told.memory n;
+}
 
 -- "the field is lost"
 unfoldable pub loses : Board → Played
-loses b = record { board = record { image = b .image; lent = b .lent; tag = fieldLoss (b .tag); bus = b .bus }; told = told.lost }
+loses b = record { board = record { image = b .image; lent = b .lent; memory = b .memory; tag = fieldLoss (b .tag); bus = b .bus }; told = told.lost }
 
 -- "`answer BITS HEX`, `silence`, or `refused K`"
 unfoldable pub replyTold : Reply → Told
@@ -77,7 +91,7 @@ unfoldable pub hears : Board → ℕ → List ℕ → Bool → Played
 hears b bits xs parity =
     let c = called (b .image) (b .lent) (b .tag) xs bits parity in
     record {
-      board = record { image = apply (b .image) (c .effect); lent = b .lent; tag = c .left; bus = b .bus };
+      board = record { image = apply (b .image) (c .effect); lent = b .lent; memory = b .memory; tag = c .left; bus = b .bus };
       told = callTold c;
     }
 
@@ -91,9 +105,10 @@ eventTold a = cond (eqb (a .refused) 0) (kindTold (a .kind) (a .value)) (told.re
 -- "the two-wire event of number N"
 unfoldable pub sees : Board → ℕ → ℕ → Played
 sees b number byte =
-    let o = does (b .image) (b .bus) number byte in
+    let o = does (both (b .image) (b .memory)) (b .bus) number byte in
+    let l = after (both (b .image) (b .memory)) (o .effect) in
     record {
-      board = record { image = after (b .image) (o .effect); lent = b .lent; tag = b .tag; bus = o .bus };
+      board = record { image = l .image; lent = b .lent; memory = l .memory; tag = b .tag; bus = o .bus };
       told = eventTold (wires.answerOf (o .reply));
     }
 
@@ -105,6 +120,11 @@ answers b t = record { board = b; told = t }
 abbrev pub shows : List ℕ → List ℕ → Told
 shows img [] = told.shown img
 shows img (page ∷ xs) = told.page (pageIn page img)
+
+-- Q-1: "`memory HEX`: N bytes of the data memory, 1 to 1,024, from byte HHHH on; `error: not how this command is written` where they are not all
+-- within it"
+unfoldable pub recalls : List ℕ → ℕ → ℕ → Told
+recalls mem at n = cond (ltb 0 n && leb (at + n) (length mem)) (told.recalled (take n (drop at mem))) told.notSoWritten
 
 -- "the tag record in words": "W being `idle` or `halt`, the state to go back to", and whether "a READ or FAST_READ was answered in this field"
 abbrev pub waitTold : Wait → Word
@@ -151,6 +171,8 @@ obeyed b verb.Show n m xs = answers b (shows (b .image) xs)
 obeyed b verb.Help n m xs = answers b told.help
 obeyed b verb.Tag n m xs = answers b (tagTold (b .tag))
 obeyed b verb.Bus n m xs = answers b (busTold (b .bus))
+obeyed b verb.Memory n m xs = lendsMemory b n
+obeyed b verb.Recall n m xs = answers b (recalls (b .memory) n m)
 
 -- "Instead of `error` alone: `error: no such command` where the first word is none of the commands .., `error: not how this command is
 -- written` where what follows it is wrong, `error: line too long`, which goes before both". Each "changes nothing".

@@ -17,6 +17,7 @@ ghost use lib.ListN.{length, take};
 ghost use Rattle.tag.specs.Outcome.{bitsOf, answerOf};
 ghost use Rattle.radio.specs.Call.{Called, called, Met};
 ghost use Rattle.two_wire.specs.declared.record.BusRecord.{BusRecord as Bus};
+ghost use Rattle.two_wire.specs.Region.{Lent, both};
 ghost use Rattle.two_wire.specs.Event.{does, Did};
 ghost use Rattle.lines.specs.Told.{tells, bytesIn, AnswerFits};
 ghost use Rattle.corridor.specs.Played.{callTold, eventTold, waitTold, tagTold, busTold};
@@ -61,17 +62,25 @@ pub fn frame_told(refused: u8, bits: usize) -> Answer
     Answer::Bits(bits)
 }
 
-// The bus event on the first `size` bytes of `image`.
-pub fn call_step(image: &mut [u8], size: usize, bus: BusRecord, number: u8, byte: u8) -> BusStep
-    requires { ⌜ size ≤ length (now image) ⌝ }
-    ensures { λ r. ⌜ Did (does (take size (now (image .entry))) bus number byte) r (take size (now (image .entry))) (take size (now (image .exit))) ⌝ }
+// The bus event on the first `size` bytes of `image` and the first `room` of `memory`.
+pub fn call_step(
+    image: &mut [u8],
+    size: usize,
+    memory: &mut [u8],
+    room: usize,
+    bus: BusRecord,
+    number: u8,
+    byte: u8,
+) -> BusStep
+    requires { ⌜ (size ≤ length (now image)) × (room ≤ length (now memory)) ⌝ }
+    ensures { λ r. ⌜ Did (does (both (take size (now (image .entry))) (take room (now (memory .entry)))) bus number byte) r (both (take size (now (image .entry))) (take room (now (memory .entry)))) (both (take size (now (image .exit))) (take room (now (memory .exit)))) ⌝ }
 {
-    two_wire::step(&mut image[0..size], bus, number, byte)
+    two_wire::step(&mut image[0..size], &mut memory[0..room], bus, number, byte)
 }
 
 // A number that is no u8 is no event either, and 255 stands for it.
 pub fn event_number(number: usize) -> u8
-    ensures { λ r. ⌜ ((img : List ℕ) (bus : Bus) (byte : ℕ) → does img bus r byte ≡ does img bus number byte) ⌝ }
+    ensures { λ r. ⌜ ((l : Lent) (bus : Bus) (byte : ℕ) → does l bus r byte ≡ does l bus number byte) ⌝ }
 {
     if number < 255 { number as u8 } else { 255 }
 }

@@ -9,6 +9,7 @@ use input::ROOM;
 use lines::read::Sent;
 use lines::write::Kilobyte;
 use lines::write::Out;
+use session::Memory;
 use session::Session;
 use session::new_session;
 use session::respond;
@@ -41,6 +42,7 @@ struct State {
 // One turn: goes on with the input, and answers a line where it is whole now.
 fn turn(
     image: &mut Kilobyte,
+    memory: &mut Memory,
     answer: &mut Kilobyte,
     bytes: &mut Sent,
     out: &mut Out,
@@ -50,13 +52,13 @@ fn turn(
 ) -> State
     requires { ⌜ (Reads (state .input)) × (Within (state .session)) ⌝ }
     ensures { λ r. ⌜ (Reads (r .input)) × (Within (r .session)) × (r .said ≤ 2080) ⌝ }
-    ensures { λ r. ⌜ Goes program (boardOf (state .session) (now (image .entry))) (state .input) (now (line .entry)) (now (chunk .entry)) (boardOf (r .session) (now (image .exit))) (r .input) (r .said) (now (line .exit)) (now (chunk .exit)) (now (out .exit)) ⌝ }
+    ensures { λ r. ⌜ Goes program (boardOf (state .session) (now (image .entry)) (now (memory .entry))) (state .input) (now (line .entry)) (now (chunk .entry)) (boardOf (r .session) (now (image .exit)) (now (memory .exit))) (r .input) (r .said) (now (line .exit)) (now (chunk .exit)) (now (out .exit)) ⌝ }
 {
     let input = state.input;
     let session = state.session;
     let moved = input.advance(line, chunk);
     if moved.whole {
-        let responded = respond(image, answer, bytes, out, line, moved.len, session);
+        let responded = respond(image, memory, answer, bytes, out, line, moved.len, session);
         let next = moved.answered();
         let left = responded.session;
         return State {
@@ -88,6 +90,7 @@ struct Ended {
 // are counted down, from a number that no run uses up.
 fn play(
     image: &mut Kilobyte,
+    memory: &mut Memory,
     answer: &mut Kilobyte,
     bytes: &mut Sent,
     out: &mut Out,
@@ -96,10 +99,10 @@ fn play(
     most: u64,
 ) -> Ended
     requires { ⌜ most ≡ 18446744073709551615 ⌝ }
-    ensures { λ r. ⌜ Ends (r .ending) (r .state) (now (image .exit)) ⌝ }
+    ensures { λ r. ⌜ Ends (r .ending) (r .state) (now (image .exit)) (now (memory .exit)) ⌝ }
 {
     let input = Input::new();
-    let session = new_session();
+    let session = new_session(memory);
     let mut state = State {
         input,
         session,
@@ -108,7 +111,7 @@ fn play(
     let mut turns = most;
     while turns > 0 {
         turns -= 1;
-        state = turn(image, answer, bytes, out, line, chunk, state);
+        state = turn(image, memory, answer, bytes, out, line, chunk, state);
         if !say(out, state.said) {
             return Ended {
                 ending: Ending::Unwritten,
@@ -130,6 +133,7 @@ fn play(
 
 fn main() {
     let mut image = [0u8; 1024];
+    let mut memory = [0u8; 16384];
     let mut answer = [0u8; 1024];
     let mut bytes = [0u8; 8192];
     let mut out = [0u8; 2080];
@@ -137,6 +141,7 @@ fn main() {
     let mut chunk = [0u8; 4096];
     let ended = play(
         &mut image,
+        &mut memory,
         &mut answer,
         &mut bytes,
         &mut out,

@@ -21,6 +21,7 @@ use lines::write::Out;
 use lines::write::line_of;
 use tag::record::TagRecord;
 use two_wire::BusRecord;
+use two_wire::MEMORY_LENGTH;
 use words::args::Verdict;
 ghost use mathlib.Core.Path.{_≡_};
 ghost use mathlib.Core.List.{List};
@@ -30,14 +31,18 @@ ghost use Rattle.input.specs.Reading.{lineRoom};
 ghost use Rattle.words.specs.Args.{saidBy};
 ghost use Rattle.lines.specs.Said.{AskedFits};
 ghost use Rattle.lines.specs.Told.{Told, tells, AnswerFits};
-ghost use Rattle.corridor.specs.Played.{opening, obeyed, played, takes, lends, loses, hears, sees, answers, shows};
+ghost use Rattle.corridor.specs.Played.{zeros, opening, obeyed, played, takes, lends, lendsMemory, loses, hears, sees, answers, shows, recalls};
 ghost use Rattle.corridor.specs.Session.{boardOf, Within, Acts, Answers};
 
-// All that is kept from line to line beside the image itself: how many bytes the image has, how many are lent for an answer, and the two
-// records.
+// Room for the data memory.
+pub type Memory = [u8; MEMORY_LENGTH];
+
+// All that is kept from line to line beside the image and the data memory themselves: how many bytes the image has, how many are lent for an
+// answer, how many the data memory has, and the two records.
 pub struct Session {
     pub size: usize,
     pub lent: usize,
+    pub memory: usize,
     pub tag: TagRecord,
     pub bus: BusRecord,
 }
@@ -54,15 +59,29 @@ pub struct Responded {
     pub length: usize,
 }
 
-pub fn new_session() -> Session
-    ensures { λ r. ⌜ Within r ⌝ }
-    ensures { λ r. ⌜ ((img : List ℕ) → boardOf r img ≡ opening) ⌝ }
+// Zeros in the first `n` bytes.
+fn clear(buffer: &mut [u8], n: usize)
+    requires { ⌜ n ≤ length (now buffer) ⌝ }
+    ensures { λ _. ⌜ take n (now (buffer .exit)) ≡ zeros n ⌝ }
 {
+    let mut k = 0;
+    while k < n {
+        buffer[k] = 0;
+        k += 1;
+    }
+}
+
+pub fn new_session(memory: &mut Memory) -> Session
+    ensures { λ r. ⌜ Within r ⌝ }
+    ensures { λ r. ⌜ ((img : List ℕ) → boardOf r img (now (memory .exit)) ≡ opening) ⌝ }
+{
+    clear(memory, MEMORY_LENGTH);
     let tag = radio::field_off();
     let bus = two_wire::bus_at_rest();
     Session {
         size: 0,
         lent: 1024,
+        memory: MEMORY_LENGTH,
         tag,
         bus,
     }
@@ -71,15 +90,17 @@ pub fn new_session() -> Session
 fn take_image(image: &mut Kilobyte, bytes: &Sent, session: Session, n: usize) -> Acted
     requires { ⌜ n ≤ 1024 ⌝ }
     requires { ⌜ Within session ⌝ }
-    ensures { λ r. ⌜ ((buf : List ℕ) → Acts (takes (boardOf session (now (image .entry))) (take n (now (bytes .entry)))) r (now (image .exit)) buf) ⌝ }
+    ensures { λ r. ⌜ ((mem buf : List ℕ) → Acts (takes (boardOf session (now (image .entry)) mem) (take n (now (bytes .entry)))) r (now (image .exit)) mem buf) ⌝ }
 {
     let size = put_front(image, 0, bytes, n);
     let lent = session.lent;
+    let memory = session.memory;
     let tag = radio::field_off();
     let bus = two_wire::bus_at_rest();
     let next = Session {
         size,
         lent,
+        memory,
         tag,
         bus,
     };
@@ -92,7 +113,7 @@ fn take_image(image: &mut Kilobyte, bytes: &Sent, session: Session, n: usize) ->
 fn lend(session: Session, n: usize) -> Acted
     requires { ⌜ n ≤ 1024 ⌝ }
     requires { ⌜ Within session ⌝ }
-    ensures { λ r. ⌜ ((img buf : List ℕ) → Acts (lends (boardOf session img) n) r img buf) ⌝ }
+    ensures { λ r. ⌜ ((img mem buf : List ℕ) → Acts (lends (boardOf session img mem) n) r img mem buf) ⌝ }
 {
     let mut next = session;
     next.lent = n;
@@ -102,9 +123,23 @@ fn lend(session: Session, n: usize) -> Acted
     }
 }
 
+fn lend_memory(memory: &mut Memory, session: Session, n: usize) -> Acted
+    requires { ⌜ n ≤ 16384 ⌝ }
+    requires { ⌜ Within session ⌝ }
+    ensures { λ r. ⌜ ((img buf : List ℕ) → Acts (lendsMemory (boardOf session img (now (memory .entry))) n) r img (now (memory .exit)) buf) ⌝ }
+{
+    clear(memory, n);
+    let mut next = session;
+    next.memory = n;
+    Acted {
+        session: next,
+        told: Answer::Memory(n),
+    }
+}
+
 fn lose_field(session: Session) -> Acted
     requires { ⌜ Within session ⌝ }
-    ensures { λ r. ⌜ ((img buf : List ℕ) → Acts (loses (boardOf session img)) r img buf) ⌝ }
+    ensures { λ r. ⌜ ((img mem buf : List ℕ) → Acts (loses (boardOf session img mem)) r img mem buf) ⌝ }
 {
     let tag = radio::field_loss(session.tag);
     let mut next = session;
@@ -126,7 +161,7 @@ fn hear(
 ) -> Acted
     requires { ⌜ count ≤ 8192 ⌝ }
     requires { ⌜ Within session ⌝ }
-    ensures { λ r. ⌜ Acts (hears (boardOf session (now (image .entry))) bits (take count (now (bytes .entry))) good) r (now (image .exit)) (now (answer .exit)) ⌝ }
+    ensures { λ r. ⌜ ((mem : List ℕ) → Acts (hears (boardOf session (now (image .entry)) mem) bits (take count (now (bytes .entry))) good) r (now (image .exit)) mem (now (answer .exit))) ⌝ }
 {
     let size = session.size;
     let lent = session.lent;
@@ -142,13 +177,20 @@ fn hear(
     }
 }
 
-fn see(image: &mut Kilobyte, session: Session, number: usize, byte: u8) -> Acted
+fn see(
+    image: &mut Kilobyte,
+    memory: &mut Memory,
+    session: Session,
+    number: usize,
+    byte: u8,
+) -> Acted
     requires { ⌜ Within session ⌝ }
-    ensures { λ r. ⌜ ((buf : List ℕ) → Acts (sees (boardOf session (now (image .entry))) number byte) r (now (image .exit)) buf) ⌝ }
+    ensures { λ r. ⌜ ((buf : List ℕ) → Acts (sees (boardOf session (now (image .entry)) (now (memory .entry))) number byte) r (now (image .exit)) (now (memory .exit)) buf) ⌝ }
 {
     let size = session.size;
+    let room = session.memory;
     let bus = session.bus;
-    let step = call_step(image, size, bus, event_number(number), byte);
+    let step = call_step(image, size, memory, room, bus, event_number(number), byte);
     let answer = step.answer;
     let told = event_told(answer);
     let left = step.bus;
@@ -164,7 +206,7 @@ fn see(image: &mut Kilobyte, session: Session, number: usize, byte: u8) -> Acted
 fn answered(session: Session, told: Answer) -> Acted
     requires { ⌜ Within session ⌝ }
     requires { ⌜ AnswerFits told ⌝ }
-    ensures { λ r. ⌜ ((img buf : List ℕ) (t : Told) → tells told buf img ≡ t → Acts (answers (boardOf session img) t) r img buf) ⌝ }
+    ensures { λ r. ⌜ ((img mem buf : List ℕ) (t : Told) → tells told buf img ≡ t → Acts (answers (boardOf session img mem) t) r img mem buf) ⌝ }
 {
     Acted { session, told }
 }
@@ -181,9 +223,28 @@ fn show_told(bytes: &[u8], end: usize, size: usize) -> Answer
     Answer::Page(bytes[0], size)
 }
 
-// Carries out a command that is written as it is to be. The bytes of a frame's answer are then at the start of `answer`.
+// What `recall` is answered by: the `n` bytes from byte `at` on of a data memory of `room` bytes, at the start of `answer`.
+fn recall_told(answer: &mut [u8], memory: &[u8], room: usize, at: usize, n: usize) -> Answer
+    requires { ⌜ (length (now answer) ≡ 1024) × (room ≤ length (now memory)) × (at ≤ 65535) × (n ≤ 1024) ⌝ }
+    ensures { λ r. ⌜ AnswerFits r ⌝ }
+    ensures { λ r. ⌜ ((img : List ℕ) → tells r (now (answer .exit)) img ≡ recalls (take room (now (memory .entry))) at n) ⌝ }
+{
+    if n == 0 {
+        return Answer::NotSoWritten;
+    }
+    let end = at + n;
+    if end > room {
+        return Answer::NotSoWritten;
+    }
+    put_front(answer, 0, &memory[at..end], n);
+    Answer::Recalled(n)
+}
+
+// Carries out a command that is written as it is to be. The bytes of a frame's answer, and those recalled, are then at the start of
+// `answer`.
 fn obey(
     image: &mut Kilobyte,
+    memory: &mut Memory,
     answer: &mut Kilobyte,
     bytes: &Sent,
     session: Session,
@@ -191,7 +252,7 @@ fn obey(
 ) -> Acted
     requires { ⌜ Within session ⌝ }
     requires { ⌜ AskedFits asked ⌝ }
-    ensures { λ r. ⌜ Acts (obeyed (boardOf session (now (image .entry))) (asked .verb) (getD (asked .given .numbers) 0 0) (getD (asked .given .numbers) 1 0) (take (asked .given .end) (now (bytes .entry)))) r (now (image .exit)) (now (answer .exit)) ⌝ }
+    ensures { λ r. ⌜ Acts (obeyed (boardOf session (now (image .entry)) (now (memory .entry))) (asked .verb) (getD (asked .given .numbers) 0 0) (getD (asked .given .numbers) 1 0) (take (asked .given .end) (now (bytes .entry)))) r (now (image .exit)) (now (memory .exit)) (now (answer .exit)) ⌝ }
 {
     let verb = asked.verb;
     let given = asked.given;
@@ -204,21 +265,27 @@ fn obey(
         Verb::Field => lose_field(session),
         Verb::Frame => hear(image, answer, bytes, session, n, end, true),
         Verb::Parity => hear(image, answer, bytes, session, n, end, false),
-        Verb::Start => see(image, session, 0, 0),
-        Verb::Stop => see(image, session, 1, 0),
-        Verb::Send => see(image, session, 2, n as u8),
-        Verb::Read => see(image, session, 3 + n, 0),
-        Verb::Event => see(image, session, n, numbers[1] as u8),
+        Verb::Start => see(image, memory, session, 0, 0),
+        Verb::Stop => see(image, memory, session, 1, 0),
+        Verb::Send => see(image, memory, session, 2, n as u8),
+        Verb::Read => see(image, memory, session, 3 + n, 0),
+        Verb::Event => see(image, memory, session, n, numbers[1] as u8),
         Verb::Show => answered(session, show_told(bytes, end, session.size)),
         Verb::Help => answered(session, Answer::Help),
         Verb::Tag => answered(session, tag_told(session.tag)),
         Verb::Bus => answered(session, bus_told(session.bus)),
+        Verb::Memory => lend_memory(memory, session, n),
+        Verb::Recall => answered(
+            session,
+            recall_told(answer, memory, session.memory, n, numbers[1] as usize),
+        ),
     }
 }
 
 // Carries out what a line asks for.
 fn act(
     image: &mut Kilobyte,
+    memory: &mut Memory,
     answer: &mut Kilobyte,
     bytes: &Sent,
     session: Session,
@@ -226,12 +293,12 @@ fn act(
 ) -> Acted
     requires { ⌜ Within session ⌝ }
     requires { ⌜ AskedFits asked ⌝ }
-    ensures { λ r. ⌜ Acts (played (boardOf session (now (image .entry))) (asked .verb) (saidBy (asked .given) (now (bytes .entry)))) r (now (image .exit)) (now (answer .exit)) ⌝ }
+    ensures { λ r. ⌜ Acts (played (boardOf session (now (image .entry)) (now (memory .entry))) (asked .verb) (saidBy (asked .given) (now (bytes .entry)))) r (now (image .exit)) (now (memory .exit)) (now (answer .exit)) ⌝ }
 {
     let given = asked.given;
     let verdict = given.verdict;
     match verdict {
-        Verdict::Good => obey(image, answer, bytes, session, asked),
+        Verdict::Good => obey(image, memory, answer, bytes, session, asked),
         Verdict::Unknown => answered(session, Answer::NoSuchCommand),
         Verdict::Wrong => answered(session, Answer::NotSoWritten),
         Verdict::Long => answered(session, Answer::TooLong),
@@ -241,6 +308,7 @@ fn act(
 // Carries out the line that the first `len` bytes of `line` are, and puts what answers it at the start of `out`.
 pub fn respond(
     image: &mut Kilobyte,
+    memory: &mut Memory,
     answer: &mut Kilobyte,
     bytes: &mut Sent,
     out: &mut Out,
@@ -250,14 +318,14 @@ pub fn respond(
 ) -> Responded
     requires { ⌜ len ≤ lineRoom ⌝ }
     requires { ⌜ Within session ⌝ }
-    ensures { λ r. ⌜ Answers (boardOf session (now (image .entry))) (take len (now (line .entry))) r (now (image .exit)) (now (out .exit)) ⌝ }
+    ensures { λ r. ⌜ Answers (boardOf session (now (image .entry)) (now (memory .entry))) (take len (now (line .entry))) r (now (image .exit)) (now (memory .exit)) (now (out .exit)) ⌝ }
 {
     let end = unended(line, len);
     if is_skipped(line, end) {
         return Responded { session, length: 0 };
     }
     let asked = asked_of(line, end, bytes);
-    let acted = act(image, answer, bytes, session, asked);
+    let acted = act(image, memory, answer, bytes, session, asked);
     let next = acted.session;
     let told = acted.told;
     let length = line_of(out, told, answer, image);

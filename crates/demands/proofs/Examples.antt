@@ -1,6 +1,6 @@
 -- The proved table: each case computes. Assumes nothing.
 use mathlib.Core.Path.{refl}
-use Rattle.two_wire.proofs.Examples.{the-examples}
+use Rattle.two_wire.proofs.Examples.{the-examples, memory-examples}
 use Rattle.demands.specs.Table.{ProvedTable}
 use Rattle.demands.proofs.Computes.{computes}
 
@@ -28,6 +28,7 @@ proved-table = record {
   collision = (refl, refl);
   other = refl;
   wires = (the-examples .rolls45, the-examples .rolls135, the-examples .rolls231);
+  memory = (memory-examples 45 refl, memory-examples 135 refl, memory-examples 231 refl);
   together = refl;
   lockedPage = (refl, refl);
 }

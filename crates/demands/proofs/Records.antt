@@ -1,15 +1,18 @@
 -- The table of records: each case computes. Assumes nothing.
 use mathlib.Core.Path.{refl}
+use mathlib.Core.List.{List}
+use Prim.Native.Nat.{ℕ}
 use Rattle.two_wire.specs.Span.{within, stores, following}
-use Rattle.two_wire.specs.Window.{readAt, byteAt}
+use Rattle.two_wire.specs.Region.{regionOf as wiresRegionOf, readAt, byteAt}
 use Rattle.two_wire.specs.Record.{phaseOf, holding, oneMore, gathers}
 use Rattle.two_wire.specs.Gathered.{landedAt, landedTo, landed, counterAfter}
-use Rattle.two_wire.specs.Event.{after, device, addressed, sent, stopped, readOn, read, byEvent, bySize, does}
-use Rattle.demands.specs.Records.{RecordCases}
+use Rattle.two_wire.specs.Event.{after, device, addressed, sent, stopped, readOn, read, byEvent, byMemory, bySize, does}
+use Rattle.two_wire.specs.Examples.{Whole}
+use Rattle.demands.specs.Records.{RecordCases, BusCases}
 use Rattle.demands.proofs.Computes.{computes}
 
 pub record-cases : RecordCases
-unfolding computes within stores following readAt byteAt phaseOf holding oneMore gathers landedAt landedTo landed counterAfter after device addressed sent stopped readOn read byEvent bySize does
+unfolding computes
 record-cases = record {
   states = (refl, refl, refl, refl, refl);
   largest = (refl, refl);
@@ -23,12 +26,19 @@ record-cases = record {
   fieldLosses = (refl, refl, refl);
   refusedImage = (refl, refl);
   refusedBuffer = (refl, refl, refl);
-  restRead = (refl, refl);
-  restSent = (refl, refl);
-  restStarts = refl;
-  restStops = refl;
-  refusedEvent = (refl, refl);
-  everyPlace = (refl, refl, refl, refl);
-  countsOn = (refl, refl, refl);
-  outside = (refl, refl);
+}
+
+pub bus-cases : (mem : List ℕ) → Whole mem → BusCases mem
+unfolding computes within stores following wiresRegionOf readAt byteAt phaseOf holding oneMore gathers landedAt landedTo landed counterAfter after device addressed sent stopped readOn read byEvent byMemory bySize does
+bus-cases mem e = record {
+  restRead = (rw e, rw e);
+  restSent = (rw e, rw e);
+  restStarts = rw e;
+  restStops = rw e;
+  refusedEvent = rw e;
+  refusedMemory = (refl, refl);
+  everyPlace = (rw e, rw e, rw e, rw e);
+  countsOn = (rw e, rw e, rw e);
+  outside = (rw e, rw e, rw e);
+  counters = (rw e, rw e, rw e, rw e);
 }

@@ -16,6 +16,7 @@ use Rattle.tag.specs.Record.{tagOf, fieldLoss}
 use Rattle.radio.specs.Call.{Called, called}
 use Rattle.two_wire.specs.declared.record.BusRecord.{BusRecord}
 use Rattle.two_wire.specs.declared.answer.Reply.the-variants.{Refused, Nothing, Declined, Byte}
+use Rattle.two_wire.specs.Region.{Lent, both}
 use Rattle.two_wire.specs.Event as wires
 use Rattle.demands.specs.Table.{plain as board}
 
@@ -32,21 +33,21 @@ tag s a = record { state = s; answered = a }
 abbrev pub reqa : List ℕ → ℕ → TagRecord → Called
 reqa img room r = called img room r (0x26 ∷ []) 7 true
 
--- ---- the bus record, with gathered bytes of FFh
+-- ---- the bus record, with gathered bytes of FFh, beside a data memory mem
 
 abbrev pub bus : ℕ → ℕ → ℕ → BusRecord
 bus phase held counter = record { phase = phase; held = held; counter = counter; bytes = replicate 64 0xFF }
 
-abbrev pub sees : BusRecord → ℕ → wires.Does
-sees r event = wires.does (board 45) r event 0x11
+abbrev pub sees : List ℕ → BusRecord → ℕ → wires.Does
+sees mem r event = wires.does (both (board 45) mem) r event 0x11
 
 -- at rest, or waiting for the device byte, with nothing gathered
 abbrev pub empty : ℕ → ℕ → BusRecord
 empty phase counter = record { phase = phase; held = 0; counter = counter; bytes = replicate 64 0 }
 
--- the image behind a stop
-abbrev pub stored : BusRecord → List ℕ
-stored r = wires.after (board 45) (sees r 1 .effect)
+-- the buffers behind a stop
+abbrev pub stored : List ℕ → BusRecord → Lent
+stored mem r = wires.after (both (board 45) mem) (sees mem r 1 .effect)
 
 pub record RecordCases : Type 0 where
   -- every number that has a meaning, and the largest of all at once
@@ -69,16 +70,23 @@ pub record RecordCases : Type 0 where
   -- "2: frame call: answer buffer under 1,024 bytes"
   pub refusedBuffer : (reqa (board 45) 1023 (numbers 9 9 9 9) .refused ≡ 2) × (reqa (board 45) 1023 (numbers 9 9 9 9) .left ≡ numbers 9 9 9 9)
       × (reqa (board 45) 1024 (numbers 9 9 9 9) .refused ≡ 0)
+
+pub record BusCases (mem : List ℕ) : Type 0 where
   -- "such a bus record as stopped with nothing gathered, counter kept": its phase is none of the seven, whatever else it has
-  pub restRead : (sees (bus 7 5 0x4010) 3 ≡ wires.answered (Byte 0xFF) (bus 7 5 0x4010)) × (sees (bus 255 5 0x4010) 4 ≡ wires.answered (Byte 0xFF) (bus 255 5 0x4010))
-  pub restSent : (sees (bus 7 5 0x4010) 2 ≡ wires.answered Declined (bus 7 5 0x4010)) × (sees (bus 255 5 0x4010) 2 ≡ wires.answered Declined (bus 255 5 0x4010))
-  pub restStarts : sees (bus 7 5 0x4010) 0 ≡ wires.answered Nothing (empty 1 0x4010)
-  pub restStops : sees (bus 7 5 0x4010) 1 ≡ wires.answered Nothing (empty 0 0x4010)
+  pub restRead : (sees mem (bus 7 5 0x4010) 3 ≡ wires.answered (Byte 0xFF) (bus 7 5 0x4010)) × (sees mem (bus 255 5 0x4010) 4 ≡ wires.answered (Byte 0xFF) (bus 255 5 0x4010))
+  pub restSent : (sees mem (bus 7 5 0x4010) 2 ≡ wires.answered Declined (bus 7 5 0x4010)) × (sees mem (bus 255 5 0x4010) 2 ≡ wires.answered Declined (bus 255 5 0x4010))
+  pub restStarts : sees mem (bus 7 5 0x4010) 0 ≡ wires.answered Nothing (empty 1 0x4010)
+  pub restStops : sees mem (bus 7 5 0x4010) 1 ≡ wires.answered Nothing (empty 0 0x4010)
   -- "4: bus call: event isn't one of the five"; "the records it was given"
-  pub refusedEvent : (sees (bus 7 5 0x4010) 5 ≡ wires.answered (Refused 4) (bus 7 5 0x4010)) × (wires.does [] (bus 7 5 0x4010) 9 0 ≡ wires.answered (Refused 1) (bus 7 5 0x4010))
+  pub refusedEvent : sees mem (bus 7 5 0x4010) 5 ≡ wires.answered (Refused 4) (bus 7 5 0x4010)
+  -- Q-1: "5, bus call with a data memory that isn't 16,384 bytes, after 1 and before 4": here it has no byte
+  pub refusedMemory : (wires.does (both [] []) (bus 7 5 0x4010) 9 0 ≡ wires.answered (Refused 1) (bus 7 5 0x4010)) × (sees [] (bus 7 5 0x4010) 9 ≡ wires.answered (Refused 5) (bus 7 5 0x4010))
   -- while writing, a count of 64 or more is of every place, and the next place goes by its remainder: bytes up to 403Fh, and then no more
-  pub everyPlace : (getD (stored (bus 4 255 0x4015)) 0x14 0 ≡ 0xFF) × (getD (stored (bus 4 255 0x4015)) 0x3F 0 ≡ 0xFF) × (getD (stored (bus 4 255 0x4015)) 0x40 0 ≡ 0x10)
-      × (sees (bus 4 255 0x4015) 1 .bus ≡ empty 0 0x4014)
-  pub countsOn : (sees (bus 4 255 0x4015) 2 .bus .held ≡ 64) × (sees (bus 4 127 0x4015) 2 .bus .held ≡ 64) × (sees (bus 4 63 0x4015) 2 .bus .held ≡ 64)
-  -- a write whose counter lies outside the window stores nothing
-  pub outside : (stored (bus 4 64 0x3FC0) ≡ board 45) × (stored (bus 4 64 0x40C0) ≡ board 45)
+  pub everyPlace : (getD (stored mem (bus 4 255 0x4015) .image) 0x14 0 ≡ 0xFF) × (getD (stored mem (bus 4 255 0x4015) .image) 0x3F 0 ≡ 0xFF)
+      × (getD (stored mem (bus 4 255 0x4015) .image) 0x40 0 ≡ 0x10) × (sees mem (bus 4 255 0x4015) 1 .bus ≡ empty 0 0x4014)
+  pub countsOn : (sees mem (bus 4 255 0x4015) 2 .bus .held ≡ 64) × (sees mem (bus 4 127 0x4015) 2 .bus .held ≡ 64) × (sees mem (bus 4 63 0x4015) 2 .bus .held ≡ 64)
+  -- a write whose counter lies in neither region stores nothing, and one of Q-1's data memory nothing in the image
+  pub outside : (stored mem (bus 4 64 0x40C0) ≡ both (board 45) mem) × (stored mem (bus 4 64 0xFFC0) ≡ both (board 45) mem) × (stored mem (bus 4 64 0x3FC0) .image ≡ board 45)
+  -- a counter in neither region counts as 4000h, and one in the data memory doesn't
+  pub counters : (sees mem (bus 5 0 0x40B4) 3 .bus .counter ≡ 0x4001) × (sees mem (bus 5 0 0xFFFF) 3 .bus .counter ≡ 0x4001) × (sees mem (bus 5 0 0x3FFF) 3 .bus .counter ≡ 0x0000)
+      × (sees mem (bus 5 0 0x40B3) 3 .bus .counter ≡ 0x4000)

@@ -17,7 +17,7 @@ use Rattle.tag.specs.declared.state.Tag.{Tag}
 use Rattle.tag.specs.Outcome.{build, Reply, silence, nibble, bytes, bitsOf, answerOf, keep, apply}
 use Rattle.tag.specs.Record.{recordOf}
 use Rattle.radio.specs.Call.{Called, called}
-use Rattle.two_wire.specs.Examples.{RollsOver}
+use Rattle.two_wire.specs.Examples.{RollsOver, MemoryExamples}
 
 -- ---- the boards
 
@@ -129,6 +129,8 @@ pub record ProvedTable : Type 0 where
   pub other : called withUid 1024 (recordOf inReady1) (0x93 ∷ 0x24 ∷ 0x09 ∷ []) 20 true .reply ≡ silence
   -- "four bytes sent to 407Eh land at 407Eh, 407Fh, 4040h, 4041h.", at each size
   pub wires : (RollsOver 45) × (RollsOver 135) × (RollsOver 231)
+  -- Q-1's: the same at 3FFEh, reads from 3FFFh on, the addresses on both sides of 4000h, and the order of the refusals, at each size
+  pub memory : (MemoryExamples 45) × (MemoryExamples 135) × (MemoryExamples 231)
   -- our own: a block bit and a lock under it, set at once: the old block bits decide
   pub together : getD (left (plain 45) (0xA2 ∷ 0x02 ∷ 0x00 ∷ 0x00 ∷ 0x09 ∷ 0x00 ∷ [])) 10 0 ≡ 0x09
   -- our own: a locked page that a WRITE doesn't change

@@ -45,6 +45,8 @@ row-fits =
     and (λ g f. tt)
     and (λ g f. tt)
     and (λ g f. tt)
+    and (λ g f. f .numbers .below 0)
+    and (λ g f. (f .numbers .below 0, f .numbers .below 1))
     and (λ g f. tt)
     )
 

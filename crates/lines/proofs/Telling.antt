@@ -25,6 +25,9 @@ module _ (told : Answer) (fits : AnswerFits told) where
   pub shown-fits : (n : ℕ) → told ≡ answer.Shown n → n ≤ 1024
   shown-fits n e = subst AnswerFits e fits
 
+  pub recalled-fits : (n : ℕ) → told ≡ answer.Recalled n → n ≤ 1024
+  recalled-fits n e = subst AnswerFits e fits
+
   pub page-fits : (p n : ℕ) → told ≡ answer.Page p n → n ≤ 1024
   page-fits p n e = subst AnswerFits e fits
 

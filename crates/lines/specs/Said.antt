@@ -29,6 +29,14 @@ numeral = kind.Number 10 1 5 65535
 abbrev pub kilo : Kind
 kilo = kind.Number 10 1 5 1024
 
+-- Q-1: "of N bytes, 0 to 16,384"
+abbrev pub memoryRoom : Kind
+memoryRoom = kind.Number 10 1 5 16384
+
+-- Q-1: "`recall HHHH N`": two bytes
+abbrev pub address : Kind
+address = kind.Number 16 4 4 65535
+
 -- "HH is one byte"
 abbrev pub byte : Kind
 byte = kind.Number 16 2 2 255
@@ -68,6 +76,8 @@ commands =
     ∷ asks (text "help") (verb.Help, (0, nothing, nothing, nothing))
     ∷ asks (text "tag") (verb.Tag, (0, nothing, nothing, nothing))
     ∷ asks (text "bus") (verb.Bus, (0, nothing, nothing, nothing))
+    ∷ asks (text "memory") (verb.Memory, (1, memoryRoom, nothing, nothing))
+    ∷ asks (text "recall") (verb.Recall, (2, address, kilo, nothing))
     ∷ []
 
 -- no command: it asks for four arguments, and its verb means nothing
@@ -103,6 +113,8 @@ Fits verb.Show g = Unit
 Fits verb.Help g = Unit
 Fits verb.Tag g = Unit
 Fits verb.Bus g = Unit
+Fits verb.Memory g = getD (g .numbers) 0 0 ≤ 16384
+Fits verb.Recall g = (getD (g .numbers) 0 0 ≤ 65535) × (getD (g .numbers) 1 0 ≤ 1024)
 
 -- the numbers that are there may be looked up among all three
 pub record AskedFits (r : Asked) : Type 0 where

@@ -32,6 +32,9 @@ pub data Told : Type 0 where
   busLow : ℕ → ℕ → Told
   busWriting : ℕ → ℕ → Told
   page : List ℕ → Told
+  -- how many bytes the data memory has; bytes of it
+  memory : ℕ → Told
+  recalled : List ℕ → Told
   noSuchCommand : Told
   notSoWritten : Told
   tooLong : Told
@@ -39,7 +42,7 @@ pub data Told : Type 0 where
 -- "one line that names the commands", each with the words that it takes
 abbrev pub helpText : List ℕ
 helpText =
-    text "commands: image HEX, buffer N, field, frame BITS HEX, parity BITS HEX, start, stop, send HH, read ack, read nak, event N HH, show, show HH, tag, bus, help"
+    text "commands: image HEX, buffer N, field, frame BITS HEX, parity BITS HEX, start, stop, send HH, read ack, read nak, event N HH, show, show HH, tag, bus, memory N, recall HHHH N, help"
 
 -- the words in which the records are told
 abbrev pub wordText : Word → List ℕ
@@ -81,6 +84,9 @@ partsOf (busLow c h) = word (text "bus low ") ∷ four c ∷ tail (h ∷ []) ∷
 partsOf (busWriting c n) = word (text "bus writing ") ∷ four c ∷ word (text " ") ∷ number n ∷ []
 -- "`page HEX`": "`page` alone where it has none of them"
 partsOf (page xs) = word (text "page") ∷ tail xs ∷ []
+-- Q-1: "`memory N`"; "`memory HEX`"
+partsOf (memory n) = word (text "memory ") ∷ number n ∷ []
+partsOf (recalled xs) = word (text "memory") ∷ tail xs ∷ []
 -- "Instead of `error` alone"
 partsOf noSuchCommand = word (text "error: no such command") ∷ []
 partsOf notSoWritten = word (text "error: not how this command is written") ∷ []
@@ -116,11 +122,13 @@ tells (answer.Bus p c) buf img = bus p c
 tells (answer.BusLow c h) buf img = busLow c h
 tells (answer.BusWriting c n) buf img = busWriting c n
 tells (answer.Page p n) buf img = page (pageIn p (take n img))
+tells (answer.Memory n) buf img = memory n
+tells (answer.Recalled n) buf img = recalled (take n buf)
 tells answer.NoSuchCommand buf img = noSuchCommand
 tells answer.NotSoWritten buf img = notSoWritten
 tells answer.TooLong buf img = tooLong
 
--- an answer of at most 1,024 bytes, which is 8,192 bits, and an image of at most 1,024
+-- an answer of at most 1,024 bytes, which is 8,192 bits, an image of at most 1,024, and as many recalled
 abbrev pub AnswerFits : Answer → Type 0
 AnswerFits (answer.Taken n) = Unit
 AnswerFits (answer.Lent n) = Unit
@@ -140,6 +148,8 @@ AnswerFits (answer.Bus p c) = Unit
 AnswerFits (answer.BusLow c h) = Unit
 AnswerFits (answer.BusWriting c n) = Unit
 AnswerFits (answer.Page p n) = n ≤ 1024
+AnswerFits (answer.Memory n) = Unit
+AnswerFits (answer.Recalled n) = n ≤ 1024
 AnswerFits answer.NoSuchCommand = Unit
 AnswerFits answer.NotSoWritten = Unit
 AnswerFits answer.TooLong = Unit

@@ -32,6 +32,8 @@ pub enum Verb {
     Help,
     Tag,
     Bus,
+    Memory,
+    Recall,
 }
 
 // A command and its arguments.
@@ -72,6 +74,10 @@ const TAG: u64 = 0x1_67_61_74;
 
 const BUS: u64 = 0x1_73_75_62;
 
+const MEMORY: u64 = 0x1_79_72_6f_6d_65_6d;
+
+const RECALL: u64 = 0x1_6c_6c_61_63_65_72;
+
 const ACK: u64 = 0x1_6b_63_61;
 
 const NAK: u64 = 0x1_6b_61_6e;
@@ -91,6 +97,20 @@ const KILO: Kind = Kind::Number {
     least: 1,
     digits: 5,
     most: 1024,
+};
+
+const MEMORY_ROOM: Kind = Kind::Number {
+    base: 10,
+    least: 1,
+    digits: 5,
+    most: 16384,
+};
+
+const ADDRESS: Kind = Kind::Number {
+    base: 16,
+    least: 4,
+    digits: 4,
+    most: 65535,
 };
 
 const BYTE: Kind = Kind::Number {
@@ -129,6 +149,8 @@ fn row_of(word: &[u8]) -> Row
         HELP => Row(Verb::Help, Shape(0, NONE, NONE, NONE)),
         TAG => Row(Verb::Tag, Shape(0, NONE, NONE, NONE)),
         BUS => Row(Verb::Bus, Shape(0, NONE, NONE, NONE)),
+        MEMORY => Row(Verb::Memory, Shape(1, MEMORY_ROOM, NONE, NONE)),
+        RECALL => Row(Verb::Recall, Shape(2, ADDRESS, KILO, NONE)),
         _ => Row(Verb::Help, Shape(4, NONE, NONE, NONE)),
     }
 }

@@ -11,10 +11,11 @@ use laying::put_letters;
 use laying::put_number;
 use laying::put_tail;
 ghost use mathlib.Core.Path.{_≡_};
+ghost use mathlib.Core.List.{[], _∷_};
 ghost use Prim.Native.Nat.{_+_, _≤_};
 ghost use lib.ListN.{length, take};
 ghost use Rattle.laying.specs.Parts.{word as Parts·word, tail as Parts·tail, lettersOf, Laid, Line};
-ghost use Rattle.lines.specs.Told.{bits, byte, shown, page as Told·page, tag as Told·tag, tagBack, bus as Told·bus, busLow, busWriting, wordText, pageIn, partsOf, bytesIn, tells, AnswerFits};
+ghost use Rattle.lines.specs.Told.{bits, byte, page as Told·page, tag as Told·tag, tagBack, bus as Told·bus, busLow, busWriting, wordText, pageIn, partsOf, bytesIn, tells, AnswerFits};
 
 // Room for the longest line: `answer 8192` with 1,024 bytes, and some more.
 pub type Out = [u8; 2080];
@@ -36,8 +37,8 @@ pub enum Word {
     Deaf,
 }
 
-// What a line is answered by. The bytes of `Bits` stand in the answer buffer, those of `Shown` in the image, and the answer has their
-// count. The two of `tag` end in whether a read was answered, and the second has the state to go back to, and whether it is authenticated; the
+// What a line is answered by. The bytes of `Bits` and of `Recalled` stand in the answer buffer, those of `Shown` in the image, and the answer
+// has their count. The two of `tag` end in whether a read was answered, and the second has the state to go back to, and whether it is authenticated; the
 // three of `bus` have the counter, then the high byte, or how many places are gathered. `Page` is a page of an image of so many bytes.
 pub enum Answer {
     Taken(usize),
@@ -58,6 +59,8 @@ pub enum Answer {
     BusLow(u16, u8),
     BusWriting(u16, u8),
     Page(u8, usize),
+    Memory(usize),
+    Recalled(usize),
     NoSuchCommand,
     NotSoWritten,
     TooLong,
@@ -85,13 +88,15 @@ fn byte_line(out: &mut Out, b: u8) -> usize
     put(out, b, b"\n")
 }
 
-fn shown_line(out: &mut Out, image: &Kilobyte, n: usize) -> usize
+// A line of a word and the first bytes of a buffer.
+fn bytes_line(out: &mut Out, word: &[u8], buffer: &Kilobyte, n: usize) -> usize
+    requires { ⌜ length (now word) ≤ 6 ⌝ }
     requires { ⌜ n ≤ 1024 ⌝ }
     ensures { λ r. ⌜ r ≤ 2080 ⌝ }
-    ensures { λ r. ⌜ Line (partsOf (shown (take n (now (image .entry))))) r (now (out .exit)) ⌝ }
+    ensures { λ r. ⌜ Line (Parts·word (now (word .entry)) ∷ Parts·tail (take n (now (buffer .entry))) ∷ []) r (now (out .exit)) ⌝ }
 {
-    let a = put(out, 0, b"image");
-    let b = put_tail(out, a, image, n);
+    let a = put(out, 0, word);
+    let b = put_tail(out, a, buffer, n);
     put(out, b, b"\n")
 }
 
@@ -228,10 +233,10 @@ pub fn line_of(out: &mut Out, told: Answer, answer: &Kilobyte, image: &Kilobyte)
         Answer::Acknowledged => fixed(out, b"ack"),
         Answer::Declined => fixed(out, b"nak"),
         Answer::Byte(b) => byte_line(out, b),
-        Answer::Shown(n) => shown_line(out, image, n),
+        Answer::Shown(n) => bytes_line(out, b"image", image, n),
         Answer::Help => fixed(
             out,
-            b"commands: image HEX, buffer N, field, frame BITS HEX, parity BITS HEX, start, stop, send HH, read ack, read nak, event N HH, show, show HH, tag, bus, help",
+            b"commands: image HEX, buffer N, field, frame BITS HEX, parity BITS HEX, start, stop, send HH, read ack, read nak, event N HH, show, show HH, tag, bus, memory N, recall HHHH N, help",
         ),
         Answer::Tag(state, answered) => tag_line(out, state, answered),
         Answer::TagBack(state, back, authenticated, answered) => {
@@ -241,6 +246,8 @@ pub fn line_of(out: &mut Out, told: Answer, answer: &Kilobyte, image: &Kilobyte)
         Answer::BusLow(counter, high) => bus_low_line(out, counter, high),
         Answer::BusWriting(counter, places) => bus_writing_line(out, counter, places),
         Answer::Page(page, size) => page_line(out, image, page, size),
+        Answer::Memory(n) => numbered(out, b"memory ", n),
+        Answer::Recalled(n) => bytes_line(out, b"memory", answer, n),
         Answer::NoSuchCommand => fixed(out, b"error: no such command"),
         Answer::NotSoWritten => fixed(out, b"error: not how this command is written"),
         Answer::TooLong => fixed(out, b"error: line too long"),

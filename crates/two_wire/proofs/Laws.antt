@@ -1,25 +1,26 @@
 -- What each way through the functions shows. Assumes nothing.
-use mathlib.Core.Path.{_≡_, refl, sym, ap, _∙_}
+use mathlib.Core.Path.{_≡_, refl, sym, ap, subst, _∙_}
 use mathlib.Core.List.{List}
-use mathlib.Core.Bool.{Bool, true, false}
-use Prim.Native.Nat.{ℕ, _+_, _*_, _/_, _%_, _≤_, _<_}
+use mathlib.Core.Bool.{Bool, true, false, cond}
+use Prim.Native.Nat.{ℕ, _+_, _-_, _*_, _/_, _%_, _≤_, _<_}
 use native.Mathlib.Numerals.{add-one}
 use native.Mathlib.Omega.{arith}
 use lib.Dec.{leb, ltb}
 use lib.ListN.{length, getD, set, length-set}
-use borrow.Author.Tests.{ne-eqb, eq-eqb, le-leb, lt-leb, leb-true, ltb-true, lt-ltb, le-ltb}
-use Rattle.basics.proofs.Choice.{and-left, and-right, by, by-case}
+use borrow.Author.Tests.{ne-eqb, eq-eqb, le-leb, lt-leb, leb-true, ltb-true, ltb-false, lt-ltb, le-ltb}
+use Rattle.basics.proofs.Choice.{and-left, and-right, split, by, by-case}
 use Rattle.image.specs.Layout.{Fits, sizeOf}
 use Rattle.image.specs.Shown.{shown}
 use Rattle.image.specs.declared.layout.Size.{Size}
 use Rattle.image.specs.declared.layout.Size.the-variants.{Pages, Unknown}
 use Rattle.image.proofs.Laws.{fits}
-use Rattle.two_wire.specs.Span.{offset, within, stores, following}
-use Rattle.two_wire.specs.Window.{first, window, pageOf, placeAfter, readAt, byteAt}
+use Rattle.two_wire.specs.Span.{offset, within, stores, following, counted}
+use Rattle.two_wire.specs.Window.{first, window, pageOf, placeAfter}
+use Rattle.two_wire.specs.Region.{Lent, both, memoryLength, memory, regionIn, bytesIn, regionOf, inEither, readAt, byteAt}
 use Rattle.two_wire.specs.Record.{numberOf, phaseOf, none, renewed, holding, oneMore, gathers}
 use Rattle.two_wire.specs.Answer.{answerOf}
-use Rattle.two_wire.specs.Gathered.{gathered, landedAt, landedTo, landed, counterAfter}
-use Rattle.two_wire.specs.Event.{noByte, Does, answered, enters, started, device, addressed, sentIn, sent, stopped, readOn, read, byEvent, bySize, does, after, Did, Says}
+use Rattle.two_wire.specs.Gathered.{gathered, landedAt, landedTo, landed, storedIn, counterAfter}
+use Rattle.two_wire.specs.Event.{noByte, Does, answered, enters, started, device, addressed, sentIn, sent, stopped, readOn, read, byEvent, byMemory, bySize, does, after, Did, Says}
 use Rattle.two_wire.specs.declared.answer.BusAnswer.{BusAnswer}
 use Rattle.two_wire.specs.declared.answer.Reply.{Reply}
 use Rattle.two_wire.specs.declared.answer.Reply.the-variants.{Refused, Nothing, Acknowledged, Declined, Byte}
@@ -27,6 +28,9 @@ use Rattle.two_wire.specs.declared.record.BusRecord.{BusRecord}
 use Rattle.two_wire.specs.declared.record.Phase.{Phase}
 use Rattle.two_wire.specs.declared.record.Phase.the-variants.{Rest, Device, High, Low, Writing, Reading, Deaf}
 use Rattle.two_wire.specs.declared.span.Span.{Span}
+use Rattle.two_wire.specs.declared.region.Buffer.{Buffer}
+use Rattle.two_wire.specs.declared.region.Buffer.the-variants.{Image, Memory}
+use Rattle.two_wire.specs.declared.region.Region.{Region}
 use Rattle.two_wire.specs.declared.event.BusStep.{BusStep}
 
 -- ---- records and answers
@@ -80,48 +84,118 @@ module _ (s : Span) (a : ℕ) (w : within s a ≡ true) where
   unfolding within
   offset-below = ltb-true (offset s a) (s .length) (and-right (leb (s .first) a) (ltb (offset s a) (s .length)) w)
 
-pub follows-last : (s : Span) (a o : ℕ) → o ≡ offset s a → o + 1 ≡ s .length → s .first ≡ following s a
+-- the byte behind an address is this one
+back : (first at : ℕ) → first + at - first ≡ at
+back first at = omega arith
+
+pub follows-last : (s : Span) (at : ℕ) → at + 1 ≡ s .length → s .first ≡ following s (s .first + at)
 unfolding following
-follows-last s a o e f = rw (eq-eqb (offset s a + 1) (s .length) (rw e at f))
+follows-last s at f = rw (back (s .first) at, eq-eqb (at + 1) (s .length) f)
 
-pub follows-other : (s : Span) (a o : ℕ) → o ≡ offset s a → (o + 1 ≡ s .length → ⊥) → a + 1 ≡ following s a
+pub follows-other : (s : Span) (at : ℕ) → (at + 1 ≡ s .length → ⊥) → s .first + (at + 1) ≡ following s (s .first + at)
 unfolding following
-follows-other s a o e f = rw (ne-eqb (offset s a + 1) (s .length) (rw e at f))
+follows-other s at f = rw (back (s .first) at, ne-eqb (at + 1) (s .length) f) (omega arith)
 
-module _ (n : ℕ) (w : Span) (e : w ≡ window n) where
-  pub window-holds : (a : ℕ) (v : Bool) → within (window n) a ≡ v → within w a ≡ v
-  window-holds a v h = rw e h
+-- ---- regions
 
-  pub window-held : (a : ℕ) (v : Bool) → within w a ≡ v → within (window n) a ≡ v
-  window-held a v h = rw e at h
+module _ (n a : ℕ) (t : Bool) (e : t ≡ within memory a) where
+  pub region-memory : t ≡ true → regionIn n Memory ≡ regionOf n a
+  unfolding regionOf
+  region-memory f = rw (← e, f)
 
-  pub window-follows : (a k : ℕ) → k ≡ following w a → k ≡ following (window n) a
-  window-follows a k h = rw e at h
+  pub region-window : (w : Span) → t ≡ false → w ≡ window n → record { buffer = Image; span = w } ≡ regionOf n a
+  unfolding regionOf
+  region-window w f h = rw (← e, f, h)
 
-  pub window-ends : n ≤ 231 → w .first + w .length ≤ 0xFFFF
-  window-ends m = rw e (omega arith)
+-- a region of one of the two buffers
+pub by-buffer : (P : Region → Type 0) (n a : ℕ) → (within memory a ≡ true → P (regionIn n Memory)) → (within memory a ≡ false → P (regionIn n Image)) → P (regionOf n a)
+unfolding regionOf
+by-buffer P n a m i = by (λ (k : Buffer). P (regionIn n k)) (within memory a) m i
 
-  pub window-fits : (img : List ℕ) → Fits n img → w .length ≤ length img
-  window-fits img f = let whole = f .whole in rw e (omega arith)
+pub either-region : (n a : ℕ) → within (regionOf n a .span) a ≡ inEither n a
+either-region n a = by-buffer (λ (g : Region). within (g .span) a ≡ inEither n a) n a (λ t. rw t) (λ t. rw t)
 
-  pub byte-shown : (a o b : ℕ) (img : List ℕ) → o ≡ offset w a → b ≡ shown n img (o / 4) (o % 4) → b ≡ byteAt n img a
-  unfolding byteAt
-  byte-shown a o b img f h = let g : o ≡ offset (window n) a = rw e at f in rw (← g) h
+-- the window begins where the data memory ends
+pub either-below : (n a : ℕ) → ltb a (memoryLength + 4 * n) ≡ inEither n a
+unfolding within
+either-below n a =
+    split (ltb (a - 0) memoryLength)
+    (λ t. let l = ltb-true (a - 0) memoryLength t in rw (le-leb 0 a (omega arith), t) (lt-ltb a (memoryLength + 4 * n) (omega arith)))
+    (λ f.
+    let l = ltb-false (a - 0) memoryLength f in
+    split (ltb (a - first) (4 * n))
+    (λ t. let m = ltb-true (a - first) (4 * n) t in rw (le-leb 0 a (omega arith), f, le-leb first a (omega arith), t) (lt-ltb a (memoryLength + 4 * n) (omega arith)))
+    (λ u. let m = ltb-false (a - first) (4 * n) u in rw (le-leb 0 a (omega arith), f, le-leb first a (omega arith), u) (le-ltb a (memoryLength + 4 * n) (omega arith))))
 
--- ---- the counter of a read
+module _ (n a : ℕ) (g : Region) (e : g ≡ regionOf n a) where
+  pub region-ends : n ≤ 231 → g .span .first + g .span .length ≤ 0xFFFF
+  region-ends m = rw e (by-buffer (λ (x : Region). x .span .first + x .span .length ≤ 0xFFFF) n a (λ _. omega arith) (λ _. omega arith))
 
-module _ (n counter : ℕ) where
-  pub read-inside : within (window n) counter ≡ true → counter ≡ readAt n counter
-  unfolding readAt
-  read-inside h = rw h
+  pub region-fits : (img mem : List ℕ) → Fits n img → length mem ≡ memoryLength → g .span .length ≤ length (bytesIn (g .buffer) (both img mem))
+  region-fits img mem f m =
+      let whole = f .whole in
+      rw e (by-buffer (λ (x : Region). x .span .length ≤ length (bytesIn (x .buffer) (both img mem))) n a (λ _. omega arith) (λ _. omega arith))
 
-  pub read-outside : within (window n) counter ≡ false → first ≡ readAt n counter
-  unfolding readAt
-  read-outside h = rw h
+-- ---- the address of a read
+
+pub counter-inside : (s : Span) (c o : ℕ) → within s c ≡ true → o ≡ offset s c → o ≡ offset s (counted s c)
+unfolding counted
+counter-inside s c o h e = rw h e
+
+pub counter-outside : (s : Span) (c : ℕ) → within s c ≡ false → 0 ≡ offset s (counted s c)
+unfolding counted
+counter-outside s c h = rw h (omega arith)
+
+not-memory : (a : ℕ) → first ≤ a → within memory a ≡ false
+unfolding within
+not-memory a l = rw (le-leb 0 a (omega arith), le-ltb (a - 0) memoryLength (omega arith))
 
 pub first-within : (n : ℕ) → 45 ≤ n → within (window n) first ≡ true
 unfolding within
 first-within n l = lt-ltb 0 (4 * n) (omega arith)
+
+-- the addresses of a region have that region
+pub same-region : (n c a : ℕ) → within (regionOf n c .span) a ≡ true → regionOf n a ≡ regionOf n c
+same-region n c a =
+    by-buffer (λ (g : Region). within (g .span) a ≡ true → regionOf n a ≡ g) n c
+    (λ _ w. sym (region-memory n a (within memory a) refl w))
+    (λ _ w. sym (region-window n a (within memory a) refl (window n) (not-memory a (first-at-most (window n) a w)) refl))
+
+module _ (n c : ℕ) (g : Region) (e : g ≡ regionOf n c) where
+  abbrev a : ℕ
+  a = counted (g .span) c
+
+  reads-at : a ≡ readAt n c
+  unfolding readAt counted
+  reads-at = rw e (by-buffer (λ (x : Region). cond (within (x .span) c) c (x .span .first) ≡ cond (inEither n c) c first) n c (λ t. rw t) (λ f. rw f))
+
+  read-within : 45 ≤ n → within (g .span) a ≡ true
+  unfolding counted
+  read-within l =
+      rw e (by-buffer (λ (x : Region). within (x .span) (cond (within (x .span) c) c (x .span .first)) ≡ true) n c (λ t. rw t t)
+      (λ _. by (λ (x : ℕ). within (window n) x ≡ true) (within (window n) c) (λ t. t) (λ _. first-within n l)))
+
+  read-region : 45 ≤ n → g ≡ regionOf n a
+  read-region l = e ∙ sym (same-region n c a (subst (λ (x : Region). within (x .span) a ≡ true) e (read-within l)))
+
+  module _ (o : ℕ) (f : o ≡ offset (g .span) a) where
+    pub place-below : 45 ≤ n → o < g .span .length
+    place-below l = rw f (offset-below (g .span) a (read-within l))
+
+    module _ (img mem : List ℕ) (fit : Fits n img) where
+      pub memory-reaches : g .buffer ≡ Memory → length mem ≡ memoryLength → o < length mem
+      memory-reaches i m =
+          let long : g .span .length ≤ length mem = rw i at (region-fits n c g e img mem fit m) in
+          let below = place-below (fit .least) in
+          omega arith
+
+      pub byte-shown : (b : ℕ) → g .buffer ≡ Image → b ≡ shown n img (o / 4) (o % 4) → b ≡ byteAt n (both img mem) a
+      unfolding byteAt
+      byte-shown b i k = rw (← read-region (fit .least), i, ← f) k
+
+      pub byte-stored : g .buffer ≡ Memory → getD mem o 0 ≡ byteAt n (both img mem) a
+      unfolding byteAt
+      byte-stored i = rw (← read-region (fit .least), i, ← f)
 
 -- ---- the gathered bytes
 
@@ -196,11 +270,11 @@ module _ (r : BusRecord) (s : BusStep) where
   device-other b d e h = rw (ne-eqb b 0xA0 d, ne-eqb b 0xA1 e) h
 
   module _ (n a : ℕ) where
-    pub address-in : within (window n) a ≡ true → Says (enters Acknowledged r Writing a) s → Says (addressed n r a) s
+    pub address-in : inEither n a ≡ true → Says (enters Acknowledged r Writing a) s → Says (addressed n r a) s
     unfolding addressed
     address-in e h = rw e h
 
-    pub address-out : within (window n) a ≡ false → Says (enters Declined r Deaf (r .counter)) s → Says (addressed n r a) s
+    pub address-out : inEither n a ≡ false → Says (enters Declined r Deaf (r .counter)) s → Says (addressed n r a) s
     unfolding addressed
     address-out e h = rw e h
 
@@ -211,72 +285,104 @@ module _ (r : BusRecord) (s : BusStep) where
   unfolding sent
   sent-by n b p q e f h = rw (← e, f) h
 
+  pub data-sent : (n b k : ℕ) (x : BusRecord) → k ≡ 4 → r .phase ≡ k → Says (answered Acknowledged x) s → x ≡ gathers r b → Says (sent n r b) s
+  data-sent n b k x e f h g = sent-by n b Writing Writing (phase-named (r .phase) Writing (f ∙ e)) refl (replies Acknowledged s x (gathers r b) h g)
+
 -- ---- a byte read
 
-module _ (n : ℕ) (img : List ℕ) (r : BusRecord) (then : Phase) (s : BusStep) where
-  pub reads-on : (a b k : ℕ) → a ≡ readAt n (r .counter) → b ≡ byteAt n img a → k ≡ following (window n) a → Says (enters (Byte b) r then k) s
-      → Says (readOn then n img r) s
+module _ (n : ℕ) (l : Lent) (r : BusRecord) (then : Phase) (s : BusStep) where
+  pub reads-on : (o b k : ℕ) (g : Region) (img : List ℕ) → g ≡ regionOf n (r .counter) → o ≡ offset (g .span) (counted (g .span) (r .counter)) → Fits n img
+      → b ≡ byteAt n l (counted (g .span) (r .counter)) → k ≡ following (g .span) (g .span .first + o) → Says (enters (Byte b) r then k) s → Says (readOn then n l r) s
   unfolding readOn
-  reads-on a b k e f g h = rw (← e, ← f, ← g) h
+  reads-on o b k g img e h fit f i j =
+      let m = first-at-most (g .span) (counted (g .span) (r .counter)) (read-within n (r .counter) g e (fit .least)) in
+      let there : g .span .first + o ≡ counted (g .span) (r .counter) = omega arith in
+      let i′ : k ≡ following (g .span) (counted (g .span) (r .counter)) = i ∙ ap (following (g .span)) there in
+      rw (← reads-at n (r .counter) g e, ← f, ← read-region n (r .counter) g e (fit .least), ← i′) j
 
-  pub reading : (k : ℕ) → k ≡ 5 → r .phase ≡ k → Says (readOn then n img r) s → Says (read then n img r) s
+  pub reading : (k : ℕ) → k ≡ 5 → r .phase ≡ k → Says (readOn then n l r) s → Says (read then n l r) s
   unfolding read
   reading k e f h = rw (eq-eqb (r .phase) 5 (f ∙ e)) h
 
-  pub not-reading : (k : ℕ) → k ≡ 5 → (r .phase ≡ k → ⊥) → Says (answered (Byte noByte) r) s → Says (read then n img r) s
+  pub not-reading : (k : ℕ) → k ≡ 5 → (r .phase ≡ k → ⊥) → Says (answered (Byte noByte) r) s → Says (read then n l r) s
   unfolding read
   not-reading k e f h = rw (ne-eqb (r .phase) 5 (λ q. f (q ∙ sym e))) h
 
+-- ---- a stop
+
+pub stored-image : (g : Region) (r : BusRecord) (img img′ mem : List ℕ) → g .buffer ≡ Image → img′ ≡ landed (g .span) r img
+    → both img′ mem ≡ storedIn (g .buffer) (g .span) r (both img mem)
+stored-image g r img img′ mem e h = rw (e, h)
+
+pub stored-memory : (g : Region) (r : BusRecord) (img mem mem′ : List ℕ) → g .buffer ≡ Memory → mem′ ≡ landed (g .span) r mem
+    → both img mem′ ≡ storedIn (g .buffer) (g .span) r (both img mem)
+stored-memory g r img mem mem′ e h = rw (e, h)
+
+module _ (g : Region) (img mem : List ℕ) (f : g .span .length ≤ length (bytesIn (g .buffer) (both img mem))) where
+  pub fits-image : g .buffer ≡ Image → g .span .length ≤ length img
+  fits-image e = rw e at f
+
+  pub fits-memory : g .buffer ≡ Memory → g .span .length ≤ length mem
+  fits-memory e = rw e at f
+
 -- ---- an event
 
--- what isn't lent the image leaves it
-pub left : (o : Does) (s : BusStep) (img : List ℕ) → Says o s → Did o s img img
+-- what isn't lent the buffers leaves them
+pub left : (o : Does) (s : BusStep) (l : Lent) → Says o s → Did o s l l
 unfolding after
-left o s img h = record { answer = h .answer; bus = h .bus; image = sym (ap (after img) (h .effect)) }
+left o s l h = record { answer = h .answer; bus = h .bus; lent = sym (ap (after l) (h .effect)) }
 
-module _ (n : ℕ) (img img′ : List ℕ) (r : BusRecord) (s : BusStep) where
-  pub stop-stores : (k counter : ℕ) (w : Span) → k ≡ 4 → r .phase ≡ k → w ≡ window n → img′ ≡ landed w r img → counter ≡ counterAfter r
-      → Says (enters Nothing r Rest counter) s → Did (stopped n r) s img img′
+module _ (n : ℕ) (l l′ : Lent) (r : BusRecord) (s : BusStep) where
+  pub stop-stores : (k counter : ℕ) (g : Region) → k ≡ 4 → r .phase ≡ k → g ≡ regionOf n (r .counter) → l′ ≡ storedIn (g .buffer) (g .span) r l
+      → counter ≡ counterAfter r → Says (enters Nothing r Rest counter) s → Did (stopped n r) s l l′
   unfolding stopped after
-  stop-stores k counter w e f g h l m =
-      rw (eq-eqb (r .phase) 4 (f ∙ e)) (record { answer = m .answer; bus = rw (← l) (m .bus); image = rw (← g) h })
+  stop-stores k counter g e f h i j m =
+      rw (eq-eqb (r .phase) 4 (f ∙ e)) (record { answer = m .answer; bus = rw (← j) (m .bus); lent = rw (← h) i })
 
-  pub stop-kept : (k : ℕ) → k ≡ 4 → (r .phase ≡ k → ⊥) → Says (enters Nothing r Rest (r .counter)) s → Did (stopped n r) s img img
+  pub stop-kept : (k : ℕ) → k ≡ 4 → (r .phase ≡ k → ⊥) → Says (enters Nothing r Rest (r .counter)) s → Did (stopped n r) s l l
   unfolding stopped
-  stop-kept k e f h = rw (ne-eqb (r .phase) 4 (λ q. f (q ∙ sym e))) (left _ s img h)
+  stop-kept k e f h = rw (ne-eqb (r .phase) 4 (λ q. f (q ∙ sym e))) (left _ s l h)
 
   module _ (event b : ℕ) where
-    pub event-start : event ≡ 0 → Says (started r) s → Did (byEvent n img r event b) s img img
+    pub event-start : event ≡ 0 → Says (started r) s → Did (byEvent n l r event b) s l l
     unfolding byEvent
-    event-start e h = rw e (left _ s img h)
+    event-start e h = rw e (left _ s l h)
 
-    pub event-stop : event ≡ 1 → Did (stopped n r) s img img′ → Did (byEvent n img r event b) s img img′
+    pub event-stop : event ≡ 1 → Did (stopped n r) s l l′ → Did (byEvent n l r event b) s l l′
     unfolding byEvent
     event-stop e h = rw e h
 
-    pub event-sent : event ≡ 2 → Says (sent n r b) s → Did (byEvent n img r event b) s img img
+    pub event-sent : event ≡ 2 → Says (sent n r b) s → Did (byEvent n l r event b) s l l
     unfolding byEvent
-    event-sent e h = rw e (left _ s img h)
+    event-sent e h = rw e (left _ s l h)
 
-    pub event-read : event ≡ 3 → Says (read Reading n img r) s → Did (byEvent n img r event b) s img img
+    pub event-read : event ≡ 3 → Says (read Reading n l r) s → Did (byEvent n l r event b) s l l
     unfolding byEvent
-    event-read e h = rw e (left _ s img h)
+    event-read e h = rw e (left _ s l h)
 
-    pub event-read-last : event ≡ 4 → Says (read Deaf n img r) s → Did (byEvent n img r event b) s img img
+    pub event-read-last : event ≡ 4 → Says (read Deaf n l r) s → Did (byEvent n l r event b) s l l
     unfolding byEvent
-    event-read-last e h = rw e (left _ s img h)
+    event-read-last e h = rw e (left _ s l h)
 
     pub event-unknown : (event ≡ 0 → ⊥) → (event ≡ 1 → ⊥) → (event ≡ 2 → ⊥) → (event ≡ 3 → ⊥) → (event ≡ 4 → ⊥) → Says (answered (Refused 4) r) s
-        → Did (byEvent n img r event b) s img img
+        → Did (byEvent n l r event b) s l l
     unfolding byEvent
-    event-unknown u v x y z h = rw (ne-eqb event 0 u, ne-eqb event 1 v, ne-eqb event 2 x, ne-eqb event 3 y, ne-eqb event 4 z) (left _ s img h)
+    event-unknown u v x y z h = rw (ne-eqb event 0 u, ne-eqb event 1 v, ne-eqb event 2 x, ne-eqb event 3 y, ne-eqb event 4 z) (left _ s l h)
 
-    module _ (size : Size) (e : size ≡ sizeOf (length img)) where
-      pub size-unknown : size ≡ Unknown → Says (answered (Refused 1) r) s → Did (does img r event b) s img img
+    pub memory-wrong : (length (l .memory) ≡ memoryLength → ⊥) → Says (answered (Refused 5) r) s → Did (byMemory n l r event b) s l l
+    unfolding byMemory
+    memory-wrong e h = rw (ne-eqb (length (l .memory)) memoryLength e) (left _ s l h)
+
+    pub memory-right : length (l .memory) ≡ memoryLength → Did (byEvent n l r event b) s l l′ → Did (byMemory n l r event b) s l l′
+    unfolding byMemory
+    memory-right e h = rw (eq-eqb (length (l .memory)) memoryLength e) h
+
+    module _ (size : Size) (e : size ≡ sizeOf (length (l .image))) where
+      pub size-unknown : size ≡ Unknown → Says (answered (Refused 1) r) s → Did (does l r event b) s l l
       unfolding does bySize
-      size-unknown f h = rw (← e, f) (left _ s img h)
+      size-unknown f h = rw (← e, f) (left _ s l h)
 
-      pub size-known : size ≡ Pages n → Did (byEvent n img r event b) s img img′ → Did (does img r event b) s img img′
+      pub size-known : size ≡ Pages n → Did (byMemory n l r event b) s l l′ → Did (does l r event b) s l l′
       unfolding does bySize
       size-known f h = rw (← e, f) h
 

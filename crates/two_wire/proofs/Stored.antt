@@ -13,9 +13,12 @@ use borrow.Author.Tests.{eqb-true, eqb-false, leb-true}
 use Rattle.basics.proofs.Choice.{and-left, and-right, by, split}
 use Rattle.two_wire.specs.Span.{offset, within, stores}
 use Rattle.two_wire.specs.Window.{pageOf, placeOf, placeAfter}
-use Rattle.two_wire.specs.Gathered.{gathered, landedAt, landedTo, landed}
+use Rattle.two_wire.specs.Region.{Lent, bytesIn}
+use Rattle.two_wire.specs.Gathered.{gathered, landedAt, landedTo, landed, storedIn}
 use Rattle.two_wire.specs.declared.record.BusRecord.{BusRecord}
 use Rattle.two_wire.specs.declared.span.Span.{Span}
+use Rattle.two_wire.specs.declared.region.Buffer.{Buffer}
+use Rattle.two_wire.specs.declared.region.Buffer.the-variants.{Image, Memory}
 use Rattle.two_wire.proofs.Laws.{first-at-most, offset-below, length-landed-at}
 
 module _ (s : Span) where
@@ -115,3 +118,16 @@ module _ (s : Span) where
     pub landed-here : (j : ℕ) → s .length ≤ length buf → j < gathered r → stores s (addressOf j) ≡ true → getD (landed s r buf) (offset s (addressOf j)) 0 ≡ byteOf j
     unfolding landed
     landed-here j f l t = landed-to-here j (gathered r) f l (omega arith) t
+
+-- ---- both buffers
+
+module _ (s : Span) (r : BusRecord) (l : Lent) where
+  pub bytes-stored : (k : Buffer) → bytesIn k (storedIn k s r l) ≡ landed s r (bytesIn k l)
+  bytes-stored Image = refl
+  bytes-stored Memory = refl
+
+  pub length-stored : (k j : Buffer) → length (bytesIn j (storedIn k s r l)) ≡ length (bytesIn j l)
+  length-stored Image Image = length-landed s r (l .image)
+  length-stored Image Memory = refl
+  length-stored Memory Image = refl
+  length-stored Memory Memory = length-landed s r (l .memory)

@@ -6,7 +6,10 @@ use lib.Dec.{eqb}
 use lib.ListN.{getD, set}
 use Rattle.two_wire.specs.Span.{offset, stores}
 use Rattle.two_wire.specs.Window.{places, pageOf, placeAfter}
+use Rattle.two_wire.specs.Region.{Lent, both}
 use Rattle.two_wire.specs.declared.record.BusRecord.{BusRecord}
+use Rattle.two_wire.specs.declared.region.Buffer.{Buffer}
+use Rattle.two_wire.specs.declared.region.Buffer.the-variants.{Image, Memory}
 use Rattle.two_wire.specs.declared.span.Span.{Span}
 
 -- how many places are gathered, from the place of the address sent on
@@ -26,6 +29,11 @@ landedTo s r (suc k) buf =
 
 unfoldable pub landed : Span → BusRecord → List ℕ → List ℕ
 landed s r buf = landedTo s r (gathered r) buf
+
+-- 02: "the same gather-and-store rules"; "Each transfer touches one region and leaves the other as it was."
+abbrev pub storedIn : Buffer → Span → BusRecord → Lent → Lent
+storedIn Image s r l = both (landed s r (l .image)) (l .memory)
+storedIn Memory s r l = both (l .image) (landed s r (l .memory))
 
 -- "if any were gathered, the counter becomes the place after the last data byte, rolled within its page"
 unfoldable pub counterAfter : BusRecord → ℕ

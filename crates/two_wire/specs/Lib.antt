@@ -1,5 +1,6 @@
 pub mod Span
 pub mod Window
+pub mod Region
 pub mod Record
 pub mod Answer
 pub mod Gathered

@@ -1,6 +1,7 @@
 -- Events one after the other. Assumes nothing.
 use mathlib.Core.List.{List, [], _∷_}
 use Prim.Native.Nat.{ℕ, zero, suc}
+use Rattle.two_wire.specs.Region.{Lent}
 use Rattle.two_wire.specs.Record.{gathers}
 use Rattle.two_wire.specs.Answer.{answerOf}
 use Rattle.two_wire.specs.Event.{start, stop, byteSent, byteReadAck, writeCode, readCode, after, does}
@@ -14,16 +15,16 @@ gathersAll r (b ∷ bs) = gathersAll (gathers r b) bs
 
 -- what there is between two events
 pub record Wires : Type 0 where
-  pub image : List ℕ
+  pub lent : Lent
   pub bus : BusRecord
 
 unfoldable pub answerTo : Wires → ℕ → ℕ → BusAnswer
-answerTo w event b = answerOf (does (w .image) (w .bus) event b .reply)
+answerTo w event b = answerOf (does (w .lent) (w .bus) event b .reply)
 
 unfoldable pub afterEvent : Wires → ℕ → ℕ → Wires
 afterEvent w event b =
-    let o = does (w .image) (w .bus) event b in
-    record { image = after (w .image) (o .effect); bus = o .bus }
+    let o = does (w .lent) (w .bus) event b in
+    record { lent = after (w .lent) (o .effect); bus = o .bus }
 
 abbrev pub afterStart : Wires → Wires
 afterStart w = afterEvent w start 0
@@ -43,7 +44,11 @@ afterWrite w h l bs = afterBytes (afterStart w) (writeCode ∷ h ∷ l ∷ bs)
 abbrev pub afterReadCode : Wires → Wires
 afterReadCode w = afterBytes (afterStart w) (readCode ∷ [])
 
--- the answers to k reads with ACK
+-- k reads with ACK, and their answers
+unfoldable pub afterReads : Wires → ℕ → Wires
+afterReads w zero = w
+afterReads w (suc k) = afterEvent (afterReads w k) byteReadAck 0
+
 unfoldable pub answersTo : Wires → ℕ → List BusAnswer
 answersTo w zero = []
 answersTo w (suc k) = answerTo w byteReadAck 0 ∷ answersTo (afterEvent w byteReadAck 0) k

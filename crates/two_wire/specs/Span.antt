@@ -18,3 +18,7 @@ stores s a = within s a && leb (s .kept) (offset s a)
 -- "advances, last to first"
 unfoldable pub following : Span → ℕ → ℕ
 following s a = cond (eqb (offset s a + 1) (s .length)) (s .first) (a + 1)
+
+-- the address that a counter counts as: the first one, where it is outside
+unfoldable pub counted : Span → ℕ → ℕ
+counted s counter = cond (within s counter) counter (s .first)

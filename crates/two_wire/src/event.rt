@@ -3,21 +3,25 @@ use crate::answer::BusAnswer;
 use crate::answer::Reply;
 use crate::answer::answer_of;
 use crate::gathered::counter_after;
-use crate::gathered::land;
+use crate::gathered::store;
 use crate::record::BusRecord;
 use crate::record::Phase;
 use crate::record::gathers;
 use crate::record::holding;
 use crate::record::number_of;
 use crate::record::phase_of;
+use crate::region::Buffer;
+use crate::region::MEMORY_LENGTH;
+use crate::region::in_either;
+use crate::region::region_of;
+use crate::span::counted;
 use crate::span::following;
-use crate::span::within;
-use crate::window::byte_at;
-use crate::window::read_at;
-use crate::window::window;
+ghost use mathlib.Core.Path.{_≡_};
 ghost use Prim.Native.Nat.{_≤_};
+ghost use lib.ListN.{length};
 ghost use Rattle.image.specs.Layout.{Fits};
-ghost use Rattle.two_wire.specs.Event.{answered, enters, started, device, addressed, sent, stopped, readOn, read, byEvent, does, Did, Says};
+ghost use Rattle.two_wire.specs.Region.{both, memoryLength};
+ghost use Rattle.two_wire.specs.Event.{answered, enters, started, device, addressed, sent, stopped, readOn, read, byEvent, byMemory, does, Did, Says};
 
 // The device bytes.
 const WRITE_CODE: u8 = 0xA0;
@@ -80,18 +84,21 @@ fn take_address(n: usize, rec: BusRecord, address: u16) -> BusStep
     requires { ⌜ n ≤ 231 ⌝ }
     ensures { λ r. ⌜ Says (addressed n rec address) r ⌝ }
 {
-    if within(window(n), address) {
+    if in_either(n, address) {
         enters(Reply::Acknowledged, rec, Phase::Writing, address)
     } else {
         enters(Reply::Declined, rec, Phase::Deaf, rec.counter)
     }
 }
 
-// A byte sent.
+// A byte sent. Most are data bytes, so that these are asked for before the others.
 fn take_byte(n: usize, rec: BusRecord, byte: u8) -> BusStep
     requires { ⌜ n ≤ 231 ⌝ }
     ensures { λ r. ⌜ Says (sent n rec byte) r ⌝ }
 {
+    if rec.phase == number_of(Phase::Writing) {
+        return answered(Reply::Acknowledged, gathers(rec, byte));
+    }
     let phase = phase_of(rec.phase);
     match phase {
         Phase::Device => take_device(rec, byte),
@@ -107,12 +114,12 @@ fn take_byte(n: usize, rec: BusRecord, byte: u8) -> BusStep
     }
 }
 
-fn stop(image: &mut [u8], n: usize, rec: BusRecord) -> BusStep
-    requires { ⌜ Fits n (now image) ⌝ }
-    ensures { λ r. ⌜ Did (stopped n rec) r (now (image .entry)) (now (image .exit)) ⌝ }
+fn stop(image: &mut [u8], memory: &mut [u8], n: usize, rec: BusRecord) -> BusStep
+    requires { ⌜ Fits n (now image) × (length (now memory) ≡ memoryLength) ⌝ }
+    ensures { λ r. ⌜ Did (stopped n rec) r (both (now (image .entry)) (now (memory .entry))) (both (now (image .exit)) (now (memory .exit))) ⌝ }
 {
     if rec.phase == number_of(Phase::Writing) {
-        land(image, window(n), rec);
+        store(image, memory, region_of(n, rec.counter), rec);
         enters(Reply::Nothing, rec, Phase::Rest, counter_after(rec))
     } else {
         enters(Reply::Nothing, rec, Phase::Rest, rec.counter)
@@ -120,48 +127,86 @@ fn stop(image: &mut [u8], n: usize, rec: BusRecord) -> BusStep
 }
 
 // A byte read while the tag gives them; it then goes on in another phase.
-fn read_on(image: &[u8], n: usize, rec: BusRecord, then: Phase) -> BusStep
-    requires { ⌜ Fits n (now image) ⌝ }
-    ensures { λ r. ⌜ Says (readOn then n (now (image .entry)) rec) r ⌝ }
+fn read_on(image: &[u8], memory: &[u8], n: usize, rec: BusRecord, then: Phase) -> BusStep
+    requires { ⌜ Fits n (now image) × (length (now memory) ≡ memoryLength) ⌝ }
+    ensures { λ r. ⌜ Says (readOn then n (both (now (image .entry)) (now (memory .entry))) rec) r ⌝ }
 {
-    let address = read_at(n, rec.counter);
-    let byte = byte_at(image, n, address);
-    enters(Reply::Byte(byte), rec, then, following(window(n), address))
+    let region = region_of(n, rec.counter);
+    let buffer = region.buffer;
+    let span = region.span;
+    match buffer {
+        Buffer::Image => {
+            let at = counted(span, rec.counter);
+            let byte = image::shown::shown(image, n, at);
+            enters(Reply::Byte(byte), rec, then, following(span, at))
+        }
+        Buffer::Memory => {
+            let at = counted(span, rec.counter);
+            let byte = memory[at];
+            enters(Reply::Byte(byte), rec, then, following(span, at))
+        }
+    }
 }
 
 // A byte read.
-fn read(image: &[u8], n: usize, rec: BusRecord, then: Phase) -> BusStep
-    requires { ⌜ Fits n (now image) ⌝ }
-    ensures { λ r. ⌜ Says (read then n (now (image .entry)) rec) r ⌝ }
+fn read(image: &[u8], memory: &[u8], n: usize, rec: BusRecord, then: Phase) -> BusStep
+    requires { ⌜ Fits n (now image) × (length (now memory) ≡ memoryLength) ⌝ }
+    ensures { λ r. ⌜ Says (read then n (both (now (image .entry)) (now (memory .entry))) rec) r ⌝ }
 {
     if rec.phase == number_of(Phase::Reading) {
-        read_on(image, n, rec, then)
+        read_on(image, memory, n, rec, then)
     } else {
         answered(Reply::Byte(NO_BYTE), rec)
     }
 }
 
-fn by_event(image: &mut [u8], n: usize, rec: BusRecord, event: u8, byte: u8) -> BusStep
-    requires { ⌜ Fits n (now image) ⌝ }
-    ensures { λ r. ⌜ Did (byEvent n (now (image .entry)) rec event byte) r (now (image .entry)) (now (image .exit)) ⌝ }
+fn by_event(
+    image: &mut [u8],
+    memory: &mut [u8],
+    n: usize,
+    rec: BusRecord,
+    event: u8,
+    byte: u8,
+) -> BusStep
+    requires { ⌜ Fits n (now image) × (length (now memory) ≡ memoryLength) ⌝ }
+    ensures { λ r. ⌜ Did (byEvent n (both (now (image .entry)) (now (memory .entry))) rec event byte) r (both (now (image .entry)) (now (memory .entry))) (both (now (image .exit)) (now (memory .exit))) ⌝ }
 {
     match event {
         START => start(rec),
-        STOP => stop(image, n, rec),
+        STOP => stop(image, memory, n, rec),
         BYTE_SENT => take_byte(n, rec, byte),
-        BYTE_READ_ACK => read(image, n, rec, Phase::Reading),
-        BYTE_READ_LAST => read(image, n, rec, Phase::Deaf),
+        BYTE_READ_ACK => read(image, memory, n, rec, Phase::Reading),
+        BYTE_READ_LAST => read(image, memory, n, rec, Phase::Deaf),
         _ => answered(Reply::Refused(4), rec),
     }
 }
 
+// An event on an image of n pages.
+fn by_memory(
+    image: &mut [u8],
+    memory: &mut [u8],
+    n: usize,
+    rec: BusRecord,
+    event: u8,
+    byte: u8,
+) -> BusStep
+    requires { ⌜ Fits n (now image) ⌝ }
+    ensures { λ r. ⌜ Did (byMemory n (both (now (image .entry)) (now (memory .entry))) rec event byte) r (both (now (image .entry)) (now (memory .entry))) (both (now (image .exit)) (now (memory .exit))) ⌝ }
+{
+    if memory.len() == MEMORY_LENGTH {
+        by_event(image, memory, n, rec, event, byte)
+    } else {
+        answered(Reply::Refused(5), rec)
+    }
+}
+
 // An event on the two wires, by value: all the work.
-pub fn step(image: &mut [u8], rec: BusRecord, event: u8, byte: u8) -> BusStep
-    ensures { λ r. ⌜ Did (does (now (image .entry)) rec event byte) r (now (image .entry)) (now (image .exit)) ⌝ }
+pub fn step(image: &mut [u8], memory: &mut [u8], rec: BusRecord, event: u8, byte: u8) -> BusStep
+    ensures { λ r. ⌜ Did (does (both (now (image .entry)) (now (memory .entry))) rec event byte) r (both (now (image .entry)) (now (memory .entry))) (both (now (image .exit)) (now (memory .exit))) ⌝ }
 {
     let size = image::layout::size_of(image.len());
     match size {
         image::layout::Size::Unknown => answered(Reply::Refused(1), rec),
-        image::layout::Size::Pages(n) => by_event(image, n, rec, event, byte),
+        image::layout::Size::Pages(n) => by_memory(image, memory, n, rec, event, byte),
     }
 }

@@ -1,5 +1,7 @@
 // The gathered bytes: which they are, and where a stop stores them.
 use crate::record::BusRecord;
+use crate::region::Buffer;
+use crate::region::Region;
 use crate::span::Span;
 use crate::span::offset;
 use crate::span::within;
@@ -8,7 +10,8 @@ use crate::window::place_after;
 ghost use mathlib.Core.Path.{_≡_};
 ghost use Prim.Native.Nat.{_≤_};
 ghost use lib.ListN.{length};
-ghost use Rattle.two_wire.specs.Gathered.{gathered, landedAt, landed, counterAfter};
+ghost use Rattle.two_wire.specs.Region.{both, bytesIn};
+ghost use Rattle.two_wire.specs.Gathered.{gathered, landedAt, landed, storedIn, counterAfter};
 
 // How many places are gathered.
 fn gathered(rec: BusRecord) -> u8
@@ -31,7 +34,7 @@ fn land_at(buffer: &mut [u8], span: Span, address: u16, byte: u8)
 }
 
 // The gathered bytes, stored in the page of the address sent.
-pub fn land(buffer: &mut [u8], span: Span, rec: BusRecord)
+fn land(buffer: &mut [u8], span: Span, rec: BusRecord)
     requires { ⌜ span .length ≤ length (now buffer) ⌝ }
     ensures { λ _. ⌜ now (buffer .exit) ≡ landed span rec (now (buffer .entry)) ⌝ }
 {
@@ -47,6 +50,19 @@ pub fn land(buffer: &mut [u8], span: Span, rec: BusRecord)
             rec.bytes[place as usize],
         );
         k += 1;
+    }
+}
+
+// The gathered bytes, stored in the buffer of a region.
+pub fn store(image: &mut [u8], memory: &mut [u8], region: Region, rec: BusRecord)
+    requires { ⌜ region .span .length ≤ length (bytesIn (region .buffer) (both (now image) (now memory))) ⌝ }
+    ensures { λ _. ⌜ both (now (image .exit)) (now (memory .exit)) ≡ storedIn (region .buffer) (region .span) rec (both (now (image .entry)) (now (memory .entry))) ⌝ }
+{
+    let buffer = region.buffer;
+    let span = region.span;
+    match buffer {
+        Buffer::Image => land(image, span, rec),
+        Buffer::Memory => land(memory, span, rec),
     }
 }
 

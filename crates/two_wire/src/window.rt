@@ -1,13 +1,8 @@
-// The window's addresses, the bytes behind them, and the 64-byte pages of addresses.
+// The window's addresses, and the 64-byte pages of addresses.
 use crate::span::Span;
-use crate::span::offset;
-use crate::span::within;
 ghost use mathlib.Core.Path.{_≡_};
-ghost use mathlib.Core.Bool.{true};
 ghost use Prim.Native.Nat.{_≤_, _<_};
-ghost use Rattle.image.specs.Layout.{Fits};
-ghost use Rattle.two_wire.specs.Span.{within};
-ghost use Rattle.two_wire.specs.Window.{window, pageOf, placeAfter, readAt, byteAt};
+ghost use Rattle.two_wire.specs.Window.{window, pageOf, placeAfter};
 
 pub const FIRST: u16 = 0x4000;
 
@@ -38,24 +33,4 @@ pub fn place_after(address: u16, k: u8) -> u8
 {
     let low = basics::low_byte(address);
     std::num::wrapping_add_u8(low, k) % 64
-}
-
-// The address that a read takes its byte from.
-pub fn read_at(n: usize, counter: u16) -> u16
-    requires { ⌜ (45 ≤ n) × (n ≤ 231) ⌝ }
-    ensures { λ r. ⌜ (r ≡ readAt n counter) × (within (window n) r ≡ true) ⌝ }
-{
-    if within(window(n), counter) {
-        counter
-    } else {
-        FIRST
-    }
-}
-
-// The byte that a read gives at an address.
-pub fn byte_at(image: &[u8], n: usize, address: u16) -> u8
-    requires { ⌜ Fits n (now image) × (within (window n) address ≡ true) ⌝ }
-    ensures { λ r. ⌜ r ≡ byteAt n (now (image .entry)) address ⌝ }
-{
-    image::shown::shown(image, n, offset(window(n), address))
 }

@@ -9,11 +9,11 @@ use Rattle.corridor.proofs.play.Statement.{statement}
 use Rattle.corridor.proofs.play.Tie as tie
 
 abbrev Inv-loop : tie.InvT-loop
-Inv-loop image₀ answer₀ bytes₀ out₀ line₀ chunk₀ most state₀ turns₀ image answer bytes out line chunk state turns =
-    Reads (state .input) × Within (state .session) × Reached program (boardOf (state .session) image) (state .input) line chunk
+Inv-loop image₀ memory₀ answer₀ bytes₀ out₀ line₀ chunk₀ most state₀ turns₀ image memory answer bytes out line chunk state turns =
+    Reads (state .input) × Within (state .session) × Reached program (boardOf (state .session) image memory) (state .input) line chunk
 
 abbrev μ-loop : tie.MeasureT-loop
-μ-loop image₀ answer₀ bytes₀ out₀ line₀ chunk₀ most state₀ turns₀ image answer bytes out line chunk state turns = turns
+μ-loop image₀ memory₀ answer₀ bytes₀ out₀ line₀ chunk₀ most state₀ turns₀ image memory answer bytes out line chunk state turns = turns
 
 pub play-spec : {M : Type 1} → statement M
 play-spec =

@@ -10,4 +10,4 @@ event-number-spec =
     (tie.spec
     (λ c. search needs)
     (λ c. search needs)
-    (λ c. λ img bus byte. search large-number))
+    (λ c. λ l bus byte. search large-number))

@@ -10,4 +10,5 @@ new-session-spec =
     (tie.spec
     (λ c κs. search needs)
     (λ c κs. search needs)
+    (λ c κs. search needs)
     (λ c. (search needs, search opened)))

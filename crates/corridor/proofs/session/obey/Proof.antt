@@ -1,6 +1,6 @@
 -- `corridor::session::obey` meets its contract. Assumes nothing.
 use borrow.Author.Needs.{needs}
-use Rattle.corridor.proofs.Laws.{image-fits, buffer-fits, send-fits, read-fits, event-fits, obeyed-by}
+use Rattle.corridor.proofs.Laws.{image-fits, buffer-fits, send-fits, read-fits, event-fits, memory-fits, recall-from, recall-most, obeyed-by}
 use Rattle.corridor.proofs.session.obey.Statement.{statement}
 use Rattle.corridor.proofs.session.obey.Tie as tie
 
@@ -45,11 +45,18 @@ obey-spec =
     (λ c. search needs)
     (λ c κs. search needs)
     (λ c κs. search needs)
+    (λ c. search needs)
+    (λ c κs. (search memory-fits, search needs))
+    (λ c. search needs)
+    (λ c. search needs)
+    (λ c. search needs)
+    (λ c κs. (search needs, search needs, search recall-from, search recall-most))
+    (λ c κs. search needs)
     (λ c. search (obeyed-by, c .take-image .ensures))
     (λ c. search (obeyed-by, c .lend .ensures))
     (λ c. search (obeyed-by, c .lose-field .ensures))
-    (λ c. search obeyed-by)
-    (λ c. search obeyed-by)
+    (λ c. search (obeyed-by, c .hear .ensures))
+    (λ c. search (obeyed-by, c .hear2 .ensures))
     (λ c. search (obeyed-by, c .see .ensures))
     (λ c. search (obeyed-by, c .see2 .ensures))
     (λ c. search (obeyed-by, c .see3 .ensures))
@@ -58,4 +65,6 @@ obey-spec =
     (λ c. search (obeyed-by, c .answered .ensures, c .before .show-told .ensures .1))
     (λ c. search (obeyed-by, c .answered2 .ensures))
     (λ c. search (obeyed-by, c .answered3 .ensures, c .before .tag-told .ensures .1))
-    (λ c. search (obeyed-by, c .answered4 .ensures, c .before .bus-told .ensures .1)))
+    (λ c. search (obeyed-by, c .answered4 .ensures, c .before .bus-told .ensures .1))
+    (λ c. search (obeyed-by, c .lend-memory .ensures))
+    (λ c. search (obeyed-by, c .answered5 .ensures, c .before .recall-told .ensures .1)))

@@ -14,4 +14,4 @@ respond-spec =
     (λ c κs. search needs)
     (λ c κs. search needs)
     (λ c κs. search needs)
-    (λ c. search responded))
+    (λ c. search (responded, c .before .before .before .before .before .before .before .before .before .before .before .before .before .before .before .before .unended .ensures)))

@@ -25,4 +25,6 @@ row-of-spec =
     (λ c. (search needs, search row-known))
     (λ c. (search needs, search row-known))
     (λ c. (search needs, search row-known))
+    (λ c. (search needs, search row-known))
+    (λ c. (search needs, search row-known))
     (λ c. (search needs, search (row-unknown, c .match .rest))))

@@ -1,6 +1,6 @@
 -- `lines::write::line_of` meets its contract. Assumes nothing.
 use borrow.Author.Needs.{needs}
-use Rattle.lines.proofs.Telling.{told-by, bits-fit, shown-fits, page-fits}
+use Rattle.lines.proofs.Telling.{told-by, bits-fit, shown-fits, recalled-fits, page-fits}
 use Rattle.lines.proofs.write.line_of.Statement.{statement}
 use Rattle.lines.proofs.write.line_of.Tie as tie
 
@@ -38,7 +38,8 @@ line-of-spec =
     (λ c. search needs)
     (λ c κs. search needs)
     (λ c. search needs)
-    (λ c κs. search shown-fits)
+    (λ c. search needs)
+    (λ c κs. (search needs, search shown-fits))
     (λ c. search needs)
     (λ c. search needs)
     (λ c κs. search needs)
@@ -59,10 +60,18 @@ line-of-spec =
     (λ c κs. search needs)
     (λ c. search needs)
     (λ c. search needs)
+    (λ c κs. (search needs, search recalled-fits))
+    (λ c. search needs)
+    (λ c. search needs)
     (λ c κs. search needs)
     (λ c. search needs)
     (λ c. search needs)
     (λ c κs. search needs)
+    (λ c. search needs)
+    (λ c. search needs)
+    (λ c κs. search needs)
+    (λ c. (search needs, search told-by))
+    (λ c. (search needs, search told-by))
     (λ c. (search needs, search told-by))
     (λ c. (search needs, search told-by))
     (λ c. (search needs, search told-by))

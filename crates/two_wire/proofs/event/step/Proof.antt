@@ -15,4 +15,5 @@ step-spec =
     (λ c κs. search size-fits)
     (λ c. search size-unknown)
     (λ c. search needs)
+    (λ c. search needs)
     (λ c. search size-known))

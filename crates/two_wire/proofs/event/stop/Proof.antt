@@ -1,6 +1,6 @@
 -- `two_wire::event::stop` meets its contract. Assumes nothing.
 use borrow.Author.Needs.{needs}
-use Rattle.two_wire.proofs.Laws.{window-fits, stop-stores, stop-kept}
+use Rattle.two_wire.proofs.Laws.{region-fits, stop-stores, stop-kept}
 use Rattle.two_wire.proofs.event.stop.Statement.{statement}
 use Rattle.two_wire.proofs.event.stop.Tie as tie
 
@@ -10,10 +10,11 @@ stop-spec =
     (tie.spec
     (λ c κs. search needs)
     (λ c κs. search needs)
-    (λ c κs. search window-fits)
+    (λ c κs. search region-fits)
     (λ c κs. search needs)
     (λ c κs. search needs)
     (λ c κs. search needs)
+    (λ c. search needs)
     (λ c. search needs)
     (λ c. search stop-stores)
     (λ c. search stop-kept))

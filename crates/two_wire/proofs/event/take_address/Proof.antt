@@ -1,7 +1,7 @@
 -- `two_wire::event::take_address` meets its contract. Assumes nothing.
 use borrow.Author.Needs.{needs}
 use Rattle.basics.proofs.Choice.{flag}
-use Rattle.two_wire.proofs.Laws.{window-held, address-in, address-out}
+use Rattle.two_wire.proofs.Laws.{address-in, address-out}
 use Rattle.two_wire.proofs.event.take_address.Statement.{statement}
 use Rattle.two_wire.proofs.event.take_address.Tie as tie
 
@@ -12,6 +12,5 @@ take-address-spec =
     (λ c κs. search needs)
     (λ c κs. search needs)
     (λ c κs. search needs)
-    (λ c κs. search needs)
-    (λ c. search (address-in, window-held, flag))
-    (λ c. search (address-out, window-held, flag)))
+    (λ c. search (address-in, flag))
+    (λ c. search (address-out, flag)))

@@ -8,7 +8,8 @@ pub following-spec : {M : Type 1} → statement M
 following-spec =
     tie.close
     (tie.spec
-    (λ c κs. search needs)
+    (λ c. search needs)
+    (λ c. search needs)
     (λ c. search needs)
     (λ c. search needs)
     (λ c. search follows-last)

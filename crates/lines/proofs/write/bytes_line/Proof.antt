@@ -1,14 +1,13 @@
--- `lines::write::shown_line` meets its contract. Assumes nothing.
+-- `lines::write::bytes_line` meets its contract. Assumes nothing.
 use borrow.Author.Needs.{needs}
 use Rattle.laying.proofs.Laying.{line-laid, more-laid, last-laid}
-use Rattle.lines.proofs.write.shown_line.Statement.{statement}
-use Rattle.lines.proofs.write.shown_line.Tie as tie
+use Rattle.lines.proofs.write.bytes_line.Statement.{statement}
+use Rattle.lines.proofs.write.bytes_line.Tie as tie
 
-pub shown-line-spec : {M : Type 1} → statement M
-shown-line-spec =
+pub bytes-line-spec : {M : Type 1} → statement M
+bytes-line-spec =
     tie.close
     (tie.spec
-    (λ c. search needs)
     (λ c κs. search needs)
     (λ c κs. search needs)
     (λ c. search needs)
