@@ -180,6 +180,6 @@ int program(void) {
         return 1;
     }
     print_number(STEPS);
-    print(" mixed frames, bus events, looks of the screen and readings: both tags give the same answers, records, images and buffers\n");
+    print(" mixed frames, bus events, looks of the screen and readings: both tags give the same answers, records, images, data memories and buffers\n");
     return 0;
 }

@@ -32,7 +32,7 @@ void frame_into(uint8_t *room, uint8_t *image, size_t image_length, uint8_t *ans
                 const uint8_t *frame, size_t frame_length, size_t bits, bool parity_good) __asm__("corridor_frame");
 
 static uint8_t image[CORRIDOR_IMAGE_45];
-static uint8_t memory[CORRIDOR_MEMORY_BYTES];
+static uint8_t memory[CORRIDOR_MEMORY_BYTES + 1];
 static uint8_t answer[CORRIDOR_ANSWER_ROOM];
 static int faults;
 
@@ -101,34 +101,36 @@ static void check_bus_record(void) {
 
     held.phase = CORRIDOR_AWAITS_LOW;
     held.held = 0x40;
-    corridor_bus_answer said = corridor_bus_event(&held, image, sizeof image, memory, sizeof memory, CORRIDOR_BYTE_SENT, 0x52);
+    corridor_bus_answer said = corridor_bus_event(&held, image, sizeof image, memory, CORRIDOR_MEMORY_BYTES, CORRIDOR_BYTE_SENT, 0x52);
     expect("corridor_bus_answer.kind", said.kind, CORRIDOR_ACKNOWLEDGE);
     expect("corridor_bus_answer.value", said.value, 1);
     expect("corridor_bus_record.counter after the address", held.counter, 0x4052);
     expect("corridor_bus_record.held after the address", held.held, 0);
 
-    corridor_bus_event(&held, image, sizeof image, memory, sizeof memory, CORRIDOR_BYTE_SENT, 0x77);
+    corridor_bus_event(&held, image, sizeof image, memory, CORRIDOR_MEMORY_BYTES, CORRIDOR_BYTE_SENT, 0x77);
     expect("corridor_bus_record.held after a data byte", held.held, 1);
     expect("corridor_bus_record.bytes", held.bytes[0x12], 0x77);
     held.held = 64;
     held.bytes[63] = 0x99;
-    corridor_bus_event(&held, image, sizeof image, memory, sizeof memory, CORRIDOR_STOP, 0);
+    corridor_bus_event(&held, image, sizeof image, memory, CORRIDOR_MEMORY_BYTES, CORRIDOR_STOP, 0);
     expect("the image after a stop", image[0x52], 0x77);
     expect("the last of corridor_bus_record.bytes", image[0x7F], 0x99);
 
-    said = corridor_bus_event(&held, image, sizeof image, memory, sizeof memory, 9, 0);
+    said = corridor_bus_event(&held, image, sizeof image, memory, CORRIDOR_MEMORY_BYTES, 9, 0);
     expect("corridor_bus_answer.refused", said.refused, CORRIDOR_REFUSED_EVENT);
 
-    /* the two buffers, and their lengths: the last byte of the data memory, and a memory that is one byte short */
+    /* the two buffers, and their lengths: the last byte of the data memory, and one that is a byte too short or too long */
     held.phase = CORRIDOR_AWAITS_LOW;
     held.held = (CORRIDOR_MEMORY_ADDRESS + CORRIDOR_MEMORY_BYTES - 1) >> 8;
-    corridor_bus_event(&held, image, sizeof image, memory, sizeof memory, CORRIDOR_BYTE_SENT, 0xFF);
-    corridor_bus_event(&held, image, sizeof image, memory, sizeof memory, CORRIDOR_BYTE_SENT, 0x55);
-    said = corridor_bus_event(&held, image, sizeof image, memory, sizeof memory - 1, CORRIDOR_STOP, 0);
+    corridor_bus_event(&held, image, sizeof image, memory, CORRIDOR_MEMORY_BYTES, CORRIDOR_BYTE_SENT, 0xFF);
+    corridor_bus_event(&held, image, sizeof image, memory, CORRIDOR_MEMORY_BYTES, CORRIDOR_BYTE_SENT, 0x55);
+    said = corridor_bus_event(&held, image, sizeof image, memory, CORRIDOR_MEMORY_BYTES - 1, CORRIDOR_STOP, 0);
     expect("corridor_bus_answer.refused of a short data memory", said.refused, CORRIDOR_REFUSED_MEMORY);
-    expect("the data memory of a refused call", memory[sizeof memory - 1], 0);
-    corridor_bus_event(&held, image, sizeof image, memory, sizeof memory, CORRIDOR_STOP, 0);
-    expect("the data memory after a stop", memory[sizeof memory - 1], 0x55);
+    said = corridor_bus_event(&held, image, sizeof image, memory, CORRIDOR_MEMORY_BYTES + 1, CORRIDOR_STOP, 0);
+    expect("corridor_bus_answer.refused of a long data memory", said.refused, CORRIDOR_REFUSED_MEMORY);
+    expect("the data memory of a refused call", memory[CORRIDOR_MEMORY_BYTES - 1], 0);
+    corridor_bus_event(&held, image, sizeof image, memory, CORRIDOR_MEMORY_BYTES, CORRIDOR_STOP, 0);
+    expect("the data memory after a stop", memory[CORRIDOR_MEMORY_BYTES - 1], 0x55);
     expect("corridor_bus_record.counter after the stop", held.counter, 0x3FC0);
 }
 

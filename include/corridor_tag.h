@@ -14,7 +14,7 @@
  *
  * Whatever numbers and bytes a call is given, it answers, or it refuses with one of the CORRIDOR_REFUSED numbers and changes nothing. No
  * record is refused: numbers without a meaning count as after field loss, or as a bus at rest. No call allocates, waits, or keeps a pointer.
- * What the caller does answer for is memory: each pointer leads to as many bytes as its length says and isn't null, also where that is 0; no
+ * What the caller does answer for is its pointers: each leads to as many bytes as its length says and isn't null, also where that is 0; no
  * two buffers overlap; a bool is 0 or 1.
  *
  * To build. The archive is for x86-64 today and for no other processor: ELF, position-independent, with the System V calling convention, SSE2
@@ -36,7 +36,7 @@
  * Stack. The deepest that was measured on x86-64 is 336 bytes, the caller's frame among them (docs/COST.md).
  *
  * When to save the image and the data memory. Three kinds of frames, one event and the writer can change the image, so a copy in flash is behind
- * only after one of these; the event alone can change the data memory, and never both of them:
+ * only after one of these. No frame changes the data memory; a stop changes one of the two, never both:
  *
  *     corridor_frame          on a record in CORRIDOR_ACTIVE, a frame that begins with
  *                               A2h (WRITE), answered by ACK: 4 bits, 0Ah
@@ -44,7 +44,7 @@
  *                               30h or 3Ah (READ, FAST_READ), where the record's `answered` went from 0 to 1: the counter
  *     corridor_bus_event      CORRIDOR_STOP, on a record in CORRIDOR_WRITING whose `held` isn't 0: the image where its `counter` is
  *                               CORRIDOR_WINDOW or above, else the data memory, and of either no byte outside the 64 of that address's page
- *     corridor_write_reading  where bytes of the image are lent to it, and it gives CORRIDOR_TAKEN
+ *     corridor_write_reading  where bytes of the image or of the data memory are lent to it, and it gives CORRIDOR_TAKEN
  */
 #ifndef CORRIDOR_TAG_H
 #define CORRIDOR_TAG_H
@@ -243,7 +243,9 @@ corridor_bus_record corridor_bus_at_rest(void);
 
 /*
  * An event was seen on the two wires. `byte` is the byte sent, and any number for the other events. Updates the record where it is, and at a
- * stop after data bytes also the image or the data memory. A refused call (1, then 5, then 4) changes none of the three.
+ * stop after data bytes also the image or the data memory. A refused call (1, then 5, then 4) changes none of the three. All 16,384 bytes of the
+ * data memory are to be lent to every call, also by a board whose logger keeps nothing there: a shorter or a longer one is refused whatever the
+ * event is, on the image too.
  *
  * The wires have two regions of addresses, with the same rules:
  *

@@ -13,5 +13,10 @@ RULES = {
 def met(step):
     if step.command[0] == "WRITE" and step.acked:
         yield f"one-image.radio-stores/bus-in-{step.phase}"
-    elif step.event == "stop" and step.before.tag.bus.gathered:
+    elif step.event == "stop" and stores_in_the_image(step.before.tag.bus):
         yield f"one-image.bus-stores/radio-in-{step.state}"
+
+
+def stores_in_the_image(bus):
+    """Q-1: a stop may store in the data memory instead."""
+    return bus.gathered and not bus.data_memory.has(bus.counter)

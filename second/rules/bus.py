@@ -53,8 +53,9 @@ NAMED_DEVICES = {0xA0: "A0h", 0xA1: "A1h", 0xA2: "A2h", 0xA3: "A3h", 0x20: "20h"
 def met(step):
     if step.event is None:
         return
-    yield f"bus.{step.event}/in-{step.phase}"
     bus = step.before.tag.bus
+    if not bus.data_memory.has(bus.counter):
+        yield f"bus.{step.event}/in-{step.phase}"
     if step.event == "send" and bus.phase == "device":
         yield "bus.device/" + NAMED_DEVICES.get(step.byte, "other")
     elif bus.data_memory.has(step.address):

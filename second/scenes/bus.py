@@ -157,7 +157,7 @@ def unfinished_writes(s, size):
 
 def bus_reads(s, size):
     """Over the last place to the first; PWD and PACK as zeros; from a counter
-    outside the window."""
+    past the window."""
     dice = s.dice
     s.image(size)
     end = s.layout.window_end

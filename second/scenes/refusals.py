@@ -1,4 +1,4 @@
-"""The refusals of document 01."""
+"""The refusals of document 01, and Q-1's of document 02."""
 
 from rules.naming import PHASES, STATES
 from scenes.plausible import plausible_image

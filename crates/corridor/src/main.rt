@@ -13,6 +13,7 @@ use session::Memory;
 use session::Session;
 use session::new_session;
 use session::respond;
+use two_wire::MEMORY_LENGTH;
 ghost use mathlib.Core.Path.{_≡_};
 ghost use Prim.Native.Nat.{_≤_};
 ghost use lib.ListN.{length};
@@ -133,7 +134,7 @@ fn play(
 
 fn main() {
     let mut image = [0u8; 1024];
-    let mut memory = [0u8; 16384];
+    let mut memory = [0u8; MEMORY_LENGTH];
     let mut answer = [0u8; 1024];
     let mut bytes = [0u8; 8192];
     let mut out = [0u8; 2080];

@@ -45,7 +45,7 @@ module _ (n second watts : ℕ) (w : Wires) (f : Fits n (w .lent .image)) (whole
   inside = rw (lt-ltb (lowFirst low high - first) (4 * n) (omega (arith, f .least)))
 
   arrives : Writes n w high low (blockOf second watts)
-  arrives = wires.writes n w high low (blockOf second watts) (screen.sized n (w .lent .image) f) whole inside
+  arrives = wires.writes n w high low (blockOf second watts) (record { size = screen.sized n (w .lent .image) f; whole = whole }) inside
 
   -- no byte rolls over
   place : (i : ℕ) → i < 14 → goesTo (lowFirst low high) i ≡ first + (4 * 0x04 + i)

@@ -1,14 +1,11 @@
 -- The table of records: each case computes. Assumes nothing.
 use mathlib.Core.Path.{refl}
-use mathlib.Core.List.{List}
-use Prim.Native.Nat.{ℕ}
 use Rattle.two_wire.specs.Span.{within, stores, following}
 use Rattle.two_wire.specs.Region.{regionOf as wiresRegionOf, readAt, byteAt}
 use Rattle.two_wire.specs.Record.{phaseOf, holding, oneMore, gathers}
 use Rattle.two_wire.specs.Gathered.{landedAt, landedTo, landed, counterAfter}
 use Rattle.two_wire.specs.Event.{after, device, addressed, sent, stopped, readOn, read, byEvent, byMemory, bySize, does}
-use Rattle.two_wire.specs.Examples.{Whole}
-use Rattle.demands.specs.Records.{RecordCases, BusCases}
+use Rattle.demands.specs.Records.{RecordCases, EveryBusCase}
 use Rattle.demands.proofs.Computes.{computes}
 
 pub record-cases : RecordCases
@@ -28,7 +25,7 @@ record-cases = record {
   refusedBuffer = (refl, refl, refl);
 }
 
-pub bus-cases : (mem : List ℕ) → Whole mem → BusCases mem
+pub bus-cases : EveryBusCase
 unfolding computes within stores following wiresRegionOf readAt byteAt phaseOf holding oneMore gathers landedAt landedTo landed counterAfter after device addressed sent stopped readOn read byEvent byMemory bySize does
 bus-cases mem e = record {
   restRead = (rw e, rw e);

@@ -18,6 +18,7 @@ use Rattle.two_wire.specs.declared.record.BusRecord.{BusRecord}
 use Rattle.two_wire.specs.declared.answer.Reply.the-variants.{Refused, Nothing, Declined, Byte}
 use Rattle.two_wire.specs.Region.{Lent, both}
 use Rattle.two_wire.specs.Event as wires
+use Rattle.two_wire.specs.Examples.{Whole}
 use Rattle.demands.specs.Table.{plain as board}
 
 -- ---- the tag record
@@ -85,8 +86,12 @@ pub record BusCases (mem : List ℕ) : Type 0 where
   pub everyPlace : (getD (stored mem (bus 4 255 0x4015) .image) 0x14 0 ≡ 0xFF) × (getD (stored mem (bus 4 255 0x4015) .image) 0x3F 0 ≡ 0xFF)
       × (getD (stored mem (bus 4 255 0x4015) .image) 0x40 0 ≡ 0x10) × (sees mem (bus 4 255 0x4015) 1 .bus ≡ empty 0 0x4014)
   pub countsOn : (sees mem (bus 4 255 0x4015) 2 .bus .held ≡ 64) × (sees mem (bus 4 127 0x4015) 2 .bus .held ≡ 64) × (sees mem (bus 4 63 0x4015) 2 .bus .held ≡ 64)
-  -- a write whose counter lies in neither region stores nothing, and one of Q-1's data memory nothing in the image
+  -- a write in a page that no region has stores nothing, and one in the data memory (Q-1) nothing in the image
   pub outside : (stored mem (bus 4 64 0x40C0) ≡ both (board 45) mem) × (stored mem (bus 4 64 0xFFC0) ≡ both (board 45) mem) × (stored mem (bus 4 64 0x3FC0) .image ≡ board 45)
   -- a counter in neither region counts as 4000h, and one in the data memory doesn't
   pub counters : (sees mem (bus 5 0 0x40B4) 3 .bus .counter ≡ 0x4001) × (sees mem (bus 5 0 0xFFFF) 3 .bus .counter ≡ 0x4001) × (sees mem (bus 5 0 0x3FFF) 3 .bus .counter ≡ 0x0000)
       × (sees mem (bus 5 0 0x40B3) 3 .bus .counter ≡ 0x4000)
+
+-- beside any data memory of a right length
+abbrev pub EveryBusCase : Type 0
+EveryBusCase = (mem : List ℕ) → Whole mem → BusCases mem

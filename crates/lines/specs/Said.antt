@@ -33,7 +33,7 @@ kilo = kind.Number 10 1 5 1024
 abbrev pub memoryRoom : Kind
 memoryRoom = kind.Number 10 1 5 16384
 
--- Q-1: "`recall HHHH N`": two bytes
+-- Q-1: "`recall HHHH N`": the four digits of an address
 abbrev pub address : Kind
 address = kind.Number 16 4 4 65535
 

@@ -37,9 +37,10 @@ pub enum Word {
     Deaf,
 }
 
-// What a line is answered by. The bytes of `Bits` and of `Recalled` stand in the answer buffer, those of `Shown` in the image, and the answer
-// has their count. The two of `tag` end in whether a read was answered, and the second has the state to go back to, and whether it is authenticated; the
-// three of `bus` have the counter, then the high byte, or how many places are gathered. `Page` is a page of an image of so many bytes.
+// What a line is answered by. The bytes of `Bits` and of `Recalled` stand in the answer buffer, those of `Shown` in the image, and the
+// answer has their count. The two of `tag` end in whether a read was answered, and the second has the state to go back to, and whether it
+// is authenticated; the three of `bus` have the counter, then the high byte, or how many places are gathered. `Page` is a page of an image
+// of so many bytes.
 pub enum Answer {
     Taken(usize),
     Lent(usize),

@@ -14,7 +14,7 @@ use Rattle.two_wire.specs.Record.{phaseOf, holding, entered, oneMore, ga
 use Rattle.two_wire.specs.Gathered.{landedAt, landedTo, landed, counterAfter}
 use Rattle.two_wire.specs.Event.{after, device, addressed, sent, stopped, byEvent, byMemory, bySize, does}
 use Rattle.two_wire.specs.Run.{gathersAll, Wires, answerTo, afterEvent, afterBytes, afterReadCode, afterReads, answersTo}
-use Rattle.two_wire.specs.Promises.{onward}
+use Rattle.two_wire.specs.Promises.{onward, Right}
 use Rattle.two_wire.specs.Examples.{blank, fresh, ReadsRound, WireExamples, MemoryExamples}
 use Rattle.two_wire.specs.declared.record.Phase.the-variants.{Writing}
 use Rattle.two_wire.proofs.Outcome.{refused-event}
@@ -28,7 +28,7 @@ the-examples = record {
   rolls231 = λ a b c d mem e. ap (λ (x : Wires). x .lent) (wires.stopped-at 231 (both (blank 231) mem) refl e atRest 0x40 0x7E (a ∷ b ∷ c ∷ d ∷ []) refl);
   inside = λ mem e. rw (e, e, e, e);
   outside = λ mem e. rw (e, e, e, e);
-  dropped = λ b mem e. wires.writes 45 (fresh 45 mem) 0x40 0x10 (b ∷ []) refl e refl .dropped;
+  dropped = λ b mem e. wires.writes 45 (fresh 45 mem) 0x40 0x10 (b ∷ []) (record { size = refl; whole = e }) refl .dropped;
 }
 
 module _ (n : ℕ) (size : sizeOf (length (blank n)) ≡ Pages n) where
@@ -37,8 +37,9 @@ module _ (n : ℕ) (size : sizeOf (length (blank n)) ≡ Pages n) where
   round mem e =
       let l : Lent = both (blank n) mem in
       let from : Wires = record { lent = l; bus = entered atRest Writing 0x3FFF } in
+      let right : Right n l = record { size = size; whole = e } in
       ap (λ (x : Wires). answersTo (afterReadCode x) 3) (wires.begun n l size e atRest 0x3F 0xFF refl)
-      ∙ rw (wires.reads n from 0 size e refl .gives, wires.reads n from 1 size e refl .gives, wires.reads n from 2 size e refl .gives)
+      ∙ rw (wires.reads n from 0 right refl .gives, wires.reads n from 1 right refl .gives, wires.reads n from 2 right refl .gives)
 
   pub memory-examples : MemoryExamples n
   unfolding sizeOf within stores regionOf phaseOf holding oneMore gathers landedAt landedTo landed after device addressed sent byEvent byMemory bySize does gathersAll answerTo afterEvent afterBytes

@@ -21,7 +21,7 @@ use Rattle.two_wire.specs.Answer.{answerOf}
 use Rattle.two_wire.specs.Gathered.{landed, storedIn, counterAfter}
 use Rattle.two_wire.specs.Event.{byteSent, byteReadAck, after, device, addressed, sent, stopped, readOn, read, byEvent, byMemory, bySize, does}
 use Rattle.two_wire.specs.Run.{gathersAll, Wires, answerTo, afterEvent, afterStart, afterStop, afterBytes, afterWrite, afterReadCode, afterReads, answersTo}
-use Rattle.two_wire.specs.Promises.{goesTo, spanAt, plain, Writes, onward, Reads}
+use Rattle.two_wire.specs.Promises.{goesTo, spanAt, plain, EveryWrite, onward, EveryRead, EveryOther}
 use Rattle.two_wire.specs.declared.answer.BusAnswer.{BusAnswer}
 use Rattle.two_wire.specs.declared.answer.Reply.the-variants.{Byte}
 use Rattle.two_wire.specs.declared.record.BusRecord.{BusRecord}
@@ -30,7 +30,7 @@ use Rattle.two_wire.specs.declared.span.Span.{Span}
 use Rattle.two_wire.specs.declared.region.Buffer.{Buffer}
 use Rattle.two_wire.specs.declared.region.Buffer.the-variants.{Image, Memory}
 use Rattle.two_wire.specs.declared.region.Region.{Region}
-use Rattle.two_wire.proofs.Laws.{first-at-most, offset-below, region-memory, same-region, by-buffer, either-region, region-fits}
+use Rattle.two_wire.proofs.Laws.{first-at-most, offset-below, region-memory, region-window, same-region, by-buffer, either-region, region-fits}
 use Rattle.two_wire.proofs.Stored.{landed-here, bytes-stored, length-stored}
 use Rattle.two_wire.proofs.Gather.{Counts, counter-gathered, phase-gathered, counts-gathered, touched}
 
@@ -121,6 +121,15 @@ module _ (n : ℕ) (l : Lent) (size : sizeOf (length (l .image)) ≡ Pages n) (w
     unfolding afterEvent does bySize byMemory byEvent read readOn readAt after holding
     read-leaves = rw (size, whole, w)
 
+  module _ (r : BusRecord) (a : ℕ) (f : inEither n a ≡ false) where
+    other-gives : answerTo (wires l (entered r Reading a)) byteReadAck 0 ≡ answerOf (Byte (byteAt n l first))
+    unfolding answerTo does bySize byMemory byEvent read readOn readAt holding
+    other-gives = rw (size, whole, f)
+
+    other-leaves : afterEvent (wires l (entered r Reading a)) byteReadAck 0 ≡ wires l (entered r Reading (following (spanAt n first) first))
+    unfolding afterEvent does bySize byMemory byEvent read readOn readAt after holding
+    other-leaves = rw (size, whole, f)
+
   -- reads give the bytes from the counter on, to the region's last
   module _ (from : ℕ) (r : BusRecord) where
     here : (a b : ℕ) → spanAt n from .first ≤ a → a < spanAt n from .first + spanAt n from .length → byteAt n l (a + 0) ≡ b
@@ -150,14 +159,13 @@ module _ (n : ℕ) (l : Lent) (size : sizeOf (length (l .image)) ≡ Pages n) (w
 
 -- ---- sequential reads
 
-pub reads : (n : ℕ) (w : Wires) (i : ℕ) → sizeOf (length (w .lent .image)) ≡ Pages n → length (w .lent .memory) ≡ memoryLength
-    → inEither n (w .bus .counter) ≡ true → Reads n w i
+pub reads : EveryRead
 unfolding afterReads onward
-reads n w i size whole either = record {
+reads n w i right either = record {
   stays = region i;
   inside = inside i;
   leaves = left i;
-  gives = ap (λ (x : Wires). answerTo x byteReadAck 0) (left i) ∙ read-gives n l size whole r (at i) (each i);
+  gives = ap (λ (x : Wires). answerTo x byteReadAck 0) (left i) ∙ read-gives n l (right .size) (right .whole) r (at i) (each i);
 }
   where
     l : Lent
@@ -183,10 +191,19 @@ reads n w i size whole either = record {
     each k = region-either n a (at k) (inside k)
 
     left : (k : ℕ) → afterReads (afterReadCode w) k ≡ wires l (entered r Reading (at k))
-    left zero = read-begun n l size whole r
+    left zero = read-begun n l (right .size) (right .whole) r
     left (suc k) =
-        ap (λ (x : Wires). afterEvent x byteReadAck 0) (left k) ∙ read-leaves n l size whole r (at k) (each k)
+        ap (λ (x : Wires). afterEvent x byteReadAck 0) (left k) ∙ read-leaves n l (right .size) (right .whole) r (at k) (each k)
         ∙ ap (λ (g : Region). wires l (entered r Reading (following (g .span) (at k)))) (region k)
+
+pub others : EveryOther
+unfolding afterReads
+others n w right f =
+    let begun = read-begun n (w .lent) (right .size) (right .whole) (w .bus) in
+    record {
+      gives = ap (λ (x : Wires). answerTo x byteReadAck 0) begun ∙ other-gives n (w .lent) (right .size) (right .whole) (w .bus) (w .bus .counter) f;
+      leaves = ap (λ (x : Wires). afterEvent x byteReadAck 0) begun ∙ other-leaves n (w .lent) (right .size) (right .whole) (w .bus) (w .bus .counter) f;
+    }
 
 -- ---- a write
 
@@ -243,6 +260,16 @@ module _ (n : ℕ) (l : Lent) (size : sizeOf (length (l .image)) ≡ Pages n) (w
       ap afterStop (wrote n l size whole r high low bs w) ∙ on-stop n l size whole wrote-to (phase-gathered bs sent-to)
       ∙ ap (λ (x : ℕ). wires (storedIn (regionOf n x .buffer) (spanAt n x) wrote-to l) (entered wrote-to Rest (counterAfter wrote-to))) sent-address
       ∙ ap (wires stored) (renewed-all (counterAfter wrote-to))
+
+  image-left : within memory a ≡ true → afterStop (afterWrite (wires l r) high low bs) .lent .image ≡ l .image
+  image-left t =
+      ap (λ (x : Wires). x .lent .image) stopped-at
+      ∙ ap (λ (g : Region). storedIn (g .buffer) (g .span) wrote-to l .image) (sym (region-memory n a (within memory a) refl t))
+
+  memory-left : within memory a ≡ false → afterStop (afterWrite (wires l r) high low bs) .lent .memory ≡ l .memory
+  memory-left f =
+      ap (λ (x : Wires). x .lent .memory) stopped-at
+      ∙ ap (λ (g : Region). storedIn (g .buffer) (g .span) wrote-to l .memory) (sym (region-window n a (within memory a) refl (window n) f refl))
 
   dropped : afterStop (afterStart (afterWrite (wires l r) high low bs)) ≡ wires l (entered r Rest a)
   dropped =
@@ -311,15 +338,17 @@ module _ (n : ℕ) (l : Lent) (size : sizeOf (length (l .image)) ≡ Pages n) (w
       plain-short : plain n k ≤ s .length
       plain-short = by-buffer (λ (g : Region). plain n (g .buffer) ≤ g .span .length) n a (λ _. omega arith) (λ _. omega arith)
 
--- a write to an address of either region, beside a right image and a right data memory
-pub writes : (n : ℕ) (w : Wires) (h l : ℕ) (bs : List ℕ) → sizeOf (length (w .lent .image)) ≡ Pages n → length (w .lent .memory) ≡ memoryLength
-    → inEither n (lowFirst l h) ≡ true → Writes n w h l bs
-writes n w h l bs size whole inside =
+pub writes : EveryWrite
+writes n w h l bs right inside =
     let b : Lent = w .lent in
     let r : BusRecord = w .bus in
+    let size = right .size in
+    let whole = right .whole in
     record {
       lands = lands n b size whole r h l bs inside;
       memory-lands = memory-lands n b size whole r h l bs inside;
+      image-left = image-left n b size whole r h l bs inside;
+      memory-left = memory-left n b size whole r h l bs inside;
       counter-left = λ some. ap (λ (x : Wires). x .bus) (stopped-at n b size whole r h l bs inside) ∙ ap (entered r Rest) (counter-moved n b size whole r h l bs inside some);
       dropped = dropped n b size whole r h l bs inside;
       read-back = read-back n b size whole r h l bs inside;

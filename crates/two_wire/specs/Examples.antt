@@ -32,8 +32,8 @@ RollsOver n = (a b c d : ℕ) (mem : List ℕ) → Whole mem
     → afterStop (afterWrite (fresh n mem) 0x40 0x7E (a ∷ b ∷ c ∷ d ∷ [])) .lent ≡ both (set (set (set (set (blank n) 0x7E a) 0x7F b) 0x40 c) 0x41 d) mem
 
 -- the same at the end of the data memory: 3FFEh, 3FFFh, 3FC0h, 3FC1h
-abbrev pub RollsOverBelow : ℕ → Type 0
-RollsOverBelow n = (a b c d : ℕ) (mem : List ℕ) → Whole mem
+abbrev pub RollsOverInMemory : ℕ → Type 0
+RollsOverInMemory n = (a b c d : ℕ) (mem : List ℕ) → Whole mem
     → afterStop (afterWrite (fresh n mem) 0x3F 0xFE (a ∷ b ∷ c ∷ d ∷ [])) .lent ≡ both (blank n) (set (set (set (set mem 0x3FFE a) 0x3FFF b) 0x3FC0 c) 0x3FC1 d)
 
 -- the answer to the low byte of an address, after the high one
@@ -58,12 +58,12 @@ pub record WireExamples : Type 0 where
 
 -- Q-1's, of a size
 pub record MemoryExamples (n : ℕ) : Type 0 where
-  pub rolls : RollsOverBelow n
+  pub rolls : RollsOverInMemory n
   pub round : ReadsRound n
   -- 3FFFh and 4000h are in different regions, and "A low address byte is acknowledged if it falls in either"
   pub apart : (regionOf n 0x3FFF ≡ regionIn n Memory) × (regionOf n 0x4000 ≡ regionIn n Image)
   pub acknowledged : (mem : List ℕ) → Whole mem
       → (answerToLow n mem 0x00 0x00 ≡ answerOf Acknowledged) × (answerToLow n mem 0x3F 0xFF ≡ answerOf Acknowledged) × (answerToLow n mem 0x40 0x00 ≡ answerOf Acknowledged)
-  -- "5, .. after 1 and before 4": an empty data memory and an event that isn't one of the five, beside an empty image and a right one
+  -- "5, .. after 1 and before 4": of an event that isn't one of the five, where image and data memory are wrong too, the data memory alone, neither
   pub order : (r : BusRecord) (b : ℕ) → (does (both [] []) r 9 b ≡ refuses 1 r) × (does (both (blank n) []) r 9 b ≡ refuses 5 r)
       × ((mem : List ℕ) → Whole mem → does (both (blank n) mem) r 9 b ≡ refuses 4 r)

@@ -8,7 +8,9 @@ use lib.ListN.{length, getD}
 use Rattle.basics.specs.Bytes.{lowFirst}
 use Rattle.two_wire.specs.Span.{offset, within, stores, following}
 use Rattle.two_wire.specs.Window.{first, places, pageOf, placeOf, placeAfter}
-use Rattle.two_wire.specs.Region.{Lent, memoryLength, memory, bytesIn, regionOf, byteAt}
+use Rattle.image.specs.Layout.{sizeOf}
+use Rattle.image.specs.declared.layout.Size.the-variants.{Pages}
+use Rattle.two_wire.specs.Region.{Lent, memoryLength, memory, bytesIn, regionOf, inEither, byteAt}
 use Rattle.two_wire.specs.Record.{entered}
 use Rattle.two_wire.specs.Answer.{answerOf}
 use Rattle.two_wire.specs.Event.{stop, byteReadAck, Does, after, does, Did}
@@ -65,6 +67,11 @@ abbrev pub plain : ℕ → Buffer → ℕ
 plain n Image = 4 * (n - 2)
 plain n Memory = memoryLength
 
+-- what is lent is right, for an image of n pages
+pub record Right (n : ℕ) (l : Lent) : Type 0 where
+  pub size : sizeOf (length (l .image)) ≡ Pages n
+  pub whole : length (l .memory) ≡ memoryLength
+
 -- A write of bytes to an address of either region, h its high byte and l its low one, whatever was on the wires before. The image has n pages.
 pub record Writes (n : ℕ) (w : Wires) (h l : ℕ) (bs : List ℕ) : Type 0 where
   -- "Stop stores the gathered bytes, latest for each place, except image bytes 0-9 and places past the window": byte i, if no more than 63
@@ -74,6 +81,9 @@ pub record Writes (n : ℕ) (w : Wires) (h l : ℕ) (bs : List ℕ) : Type 0 whe
   -- 02: "none of its bytes is kept back": in the data memory every such byte lands
   pub memory-lands : within memory (lowFirst l h) ≡ true → (i : ℕ) → i < length bs → length bs ≤ i + places
       → getD (afterStop (afterWrite w h l bs) .lent .memory) (goesTo (lowFirst l h) i) 0 ≡ getD bs i 0
+  -- 02: "Each transfer touches one region and leaves the other as it was."
+  pub image-left : within memory (lowFirst l h) ≡ true → afterStop (afterWrite w h l bs) .lent .image ≡ w .lent .image
+  pub memory-left : within memory (lowFirst l h) ≡ false → afterStop (afterWrite w h l bs) .lent .memory ≡ w .lent .memory
   -- "if any were gathered, the counter becomes the place after the last data byte, rolled within its page. .. The bus is then at rest."
   pub counter-left : 0 < length bs → afterStop (afterWrite w h l bs) .bus ≡ entered (w .bus) Rest (goesTo (lowFirst l h) (length bs))
   -- "Start: .. drop an unfinished write, the counter staying at the address sent."
@@ -82,6 +92,9 @@ pub record Writes (n : ℕ) (w : Wires) (h l : ℕ) (bs : List ℕ) : Type 0 whe
   pub read-back : spanAt n (lowFirst l h) .first + spanAt n (lowFirst l h) .kept ≤ lowFirst l h → placeOf (lowFirst l h) + length bs ≤ places
       → lowFirst l h + length bs ≤ spanAt n (lowFirst l h) .first + plain n (regionOf n (lowFirst l h) .buffer)
       → answersTo (afterReadCode (afterWrite (afterStop (afterWrite w h l bs)) h l [])) (length bs) ≡ map (λ b. answerOf (Byte b)) bs
+
+abbrev pub EveryWrite : Type 0
+EveryWrite = (n : ℕ) (w : Wires) (h l : ℕ) (bs : List ℕ) → Right n (w .lent) → inEither n (lowFirst l h) ≡ true → Writes n w h l bs
 
 -- ---- what reads give
 
@@ -97,3 +110,14 @@ pub record Reads (n : ℕ) (w : Wires) (i : ℕ) : Type 0 where
   pub inside : within (spanAt n (w .bus .counter)) (onward (spanAt n (w .bus .counter)) (w .bus .counter) i) ≡ true
   pub leaves : afterReads (afterReadCode w) i ≡ record { lent = w .lent; bus = entered (w .bus) Reading (onward (spanAt n (w .bus .counter)) (w .bus .counter) i) }
   pub gives : answerTo (afterReads (afterReadCode w) i) byteReadAck 0 ≡ answerOf (Byte (byteAt n (w .lent) (onward (spanAt n (w .bus .counter)) (w .bus .counter) i)))
+
+abbrev pub EveryRead : Type 0
+EveryRead = (n : ℕ) (w : Wires) (i : ℕ) → Right n (w .lent) → inEither n (w .bus .counter) ≡ true → Reads n w i
+
+-- 02: "A counter in neither region still counts as 4000h.": the first read behind start and A1h
+pub record CountsAsFirst (n : ℕ) (w : Wires) : Type 0 where
+  pub gives : answerTo (afterReadCode w) byteReadAck 0 ≡ answerOf (Byte (byteAt n (w .lent) first))
+  pub leaves : afterReads (afterReadCode w) 1 ≡ record { lent = w .lent; bus = entered (w .bus) Reading (following (spanAt n first) first) }
+
+abbrev pub EveryOther : Type 0
+EveryOther = (n : ℕ) (w : Wires) → Right n (w .lent) → inEither n (w .bus .counter) ≡ false → CountsAsFirst n w

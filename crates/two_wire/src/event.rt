@@ -14,7 +14,7 @@ use crate::region::Buffer;
 use crate::region::MEMORY_LENGTH;
 use crate::region::in_either;
 use crate::region::region_of;
-use crate::span::counted;
+use crate::span::byte_counted;
 use crate::span::following;
 ghost use mathlib.Core.Path.{_≡_};
 ghost use Prim.Native.Nat.{_≤_};
@@ -91,7 +91,7 @@ fn take_address(n: usize, rec: BusRecord, address: u16) -> BusStep
     }
 }
 
-// A byte sent. Most are data bytes, so that these are asked for before the others.
+// A byte sent. Most are data bytes, so that these are asked for first: their arm below, which the match must have, is then not come to.
 fn take_byte(n: usize, rec: BusRecord, byte: u8) -> BusStep
     requires { ⌜ n ≤ 231 ⌝ }
     ensures { λ r. ⌜ Says (sent n rec byte) r ⌝ }
@@ -136,12 +136,12 @@ fn read_on(image: &[u8], memory: &[u8], n: usize, rec: BusRecord, then: Phase) -
     let span = region.span;
     match buffer {
         Buffer::Image => {
-            let at = counted(span, rec.counter);
+            let at = byte_counted(span, rec.counter);
             let byte = image::shown::shown(image, n, at);
             enters(Reply::Byte(byte), rec, then, following(span, at))
         }
         Buffer::Memory => {
-            let at = counted(span, rec.counter);
+            let at = byte_counted(span, rec.counter);
             let byte = memory[at];
             enters(Reply::Byte(byte), rec, then, following(span, at))
         }

@@ -41,7 +41,7 @@ pub fn following(span: Span, at: usize) -> u16
 }
 
 // The byte that a counter counts as: the first one, where it is outside.
-pub fn counted(span: Span, counter: u16) -> usize
+pub fn byte_counted(span: Span, counter: u16) -> usize
     ensures { λ r. ⌜ r ≡ offset span (counted span counter) ⌝ }
 {
     if within(span, counter) {

@@ -1,12 +1,12 @@
--- `two_wire::span::counted` meets its contract. Assumes nothing.
+-- `two_wire::span::byte_counted` meets its contract. Assumes nothing.
 use borrow.Author.Needs.{needs}
 use Rattle.basics.proofs.Choice.{flag}
 use Rattle.two_wire.proofs.Laws.{first-at-most, counter-inside, counter-outside}
-use Rattle.two_wire.proofs.span.counted.Statement.{statement}
-use Rattle.two_wire.proofs.span.counted.Tie as tie
+use Rattle.two_wire.proofs.span.byte_counted.Statement.{statement}
+use Rattle.two_wire.proofs.span.byte_counted.Tie as tie
 
-pub counted-spec : {M : Type 1} → statement M
-counted-spec =
+pub byte-counted-spec : {M : Type 1} → statement M
+byte-counted-spec =
     tie.close
     (tie.spec
     (λ c κs. search needs)
