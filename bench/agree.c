@@ -65,13 +65,15 @@ static uint8_t dice_page(void) {
     return (uint8_t)(dice(3) ? dice(pages + 2) : pages - dice(8));
 }
 
-/* Mostly the frame that leads on from where the tag is; in ACTIVE a command. */
+/* Mostly the frame that leads on from where the tag is, a READ before the tag is selected among them; in ACTIVE a command. */
 static struct frame dice_frame(void) {
     uint8_t state = proved.record.state, right = proved.length > 12 ? proved.image[proved.length - 12] : 0;
     if (dice(12) == 0)
         return frame_of((const uint8_t[]){dice_byte(), dice_byte(), dice_byte(), dice_byte()}, 1 + dice(4));
     if (state == CORRIDOR_IDLE || state == CORRIDOR_HALT)
         return short_frame(dice(3) ? 0x52 : 0x26);
+    if ((state == CORRIDOR_READY1 || state == CORRIDOR_READY2) && dice(5) == 0)
+        return WITH_CRC(0x30, dice(4) ? 0 : dice_page());
     if (state == CORRIDOR_READY1 || state == CORRIDOR_READY2)
         return dice(4) ? select_frame(proved.image, state == CORRIDOR_READY1) : FRAME(state == CORRIDOR_READY1 ? 0x93 : 0x95, 0x20);
     switch (dice(9)) {

@@ -80,6 +80,7 @@ void list_kinds(struct kind kinds[KINDS]) {
         {"anticollision                ", run_frame, 200000, FRAME(0x93, 0x20), CORRIDOR_READY1, false},
         {"SELECT                       ", run_frame, 100000, select_frame(proved.image, true), CORRIDOR_READY1, false},
         {"READ                         ", run_frame, 50000, WITH_CRC(0x30, 0x06), CORRIDOR_ACTIVE, false},
+        {"READ of page 00h in READY1   ", run_frame, 50000, WITH_CRC(0x30, 0x00), CORRIDOR_READY1, false},
         {"FAST_READ of everything      ", run_frame, 2000, WITH_CRC(0x3A, 0x00, 0xE6), CORRIDOR_ACTIVE, false},
         {"WRITE of a user page         ", run_frame, 50000, WITH_CRC(0xA2, 0xD0, 1, 2, 3, 4), CORRIDOR_ACTIVE, false},
         {"WRITE of static locks        ", run_frame, 50000, WITH_CRC(0xA2, 0x02, 0, 0, 8, 0), CORRIDOR_ACTIVE, false},

@@ -13,7 +13,7 @@ struct kind {
     bool reading; /* whether a reading stands at page 04h */
 };
 
-enum { KINDS = 16 };
+enum { KINDS = 17 };
 
 /* Fills the list. */
 void list_kinds(struct kind kinds[KINDS]);

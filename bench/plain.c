@@ -156,6 +156,12 @@ static size_t anticollision(corridor_tag_record *tag, const uint8_t *five, const
     return 40 - 8 * whole - part;
 }
 
+/* "A whole READ frame for address 00h with good parity and CRC": in READY1 and READY2 it "is to be answered as ACTIVE would answer it". */
+static bool reads_zero(const uint8_t *frame, size_t bits, bool parity_good)
+{
+    return bits == 32 && parity_good && frame[0] == 0x30 && frame[1] == 0x00 && crc_good(frame, 4);
+}
+
 /* "Anything else, bad parity and a non-match among them: silence, wait state." */
 static size_t in_ready(const uint8_t *image, corridor_tag_record *tag, const uint8_t *frame, size_t bits, bool parity_good,
                        uint8_t *answer)
@@ -386,6 +392,8 @@ corridor_answer plain_frame(uint8_t *image, size_t image_length, uint8_t *answer
         return given;
 
     given.left = with_meaning(held);
+    if ((given.left.state == CORRIDOR_READY1 || given.left.state == CORRIDOR_READY2) && reads_zero(frame, bits, parity_good))
+        given.left.state = CORRIDOR_ACTIVE;
     switch (given.left.state) {
     case CORRIDOR_READY1:
     case CORRIDOR_READY2:

@@ -40,6 +40,11 @@ static const struct heard exchange[] = {
     {40, "READ 04h, after the logger's stop", 32, {0x30, 0x04, 0x26, 0xEE}},
     {41, "READ F0h, which is no page", 32, {0x30, 0xF0, 0x8D, 0x5F}},
     {42, "the field is lost", 0, {0}},
+    {43, "REQA of a phone that skips the second SELECT", 7, {0x26}},
+    {43, "SELECT, first part", 72, {0x93, 0x70, 0x88, 0x1D, 0xA2, 0x30, 0x07, 0xB5, 0x39}},
+    {43, "READ 00h, before the second SELECT", 32, {0x30, 0x00, 0x02, 0xA8}},
+    {43, "READ 04h", 32, {0x30, 0x04, 0x26, 0xEE}},
+    {44, "the field is lost", 0, {0}},
 };
 
 /* ---- the pin driver: a stub that replays the logger's transfers */

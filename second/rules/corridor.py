@@ -1,8 +1,9 @@
 """The rules of `corridor`."""
 
 from lines.reading import TABLE
-from rules import (active, bad_lines, both_sides, bus, counter, lines, locks, memory, memory_lines, password,
-                   reads, records, refusals, returns, selection, waiting, writes)
+from rules import (active, bad_lines, both_sides, bus, counter, entered_by_read, lines, locks, memory,
+                   memory_lines, password, reads, reads_at_once, ready_commands, records, refusals, returns,
+                   selection, waiting, writes)
 from rules.book import Group, RuleBook
 from rules.step import Watched
 
@@ -20,6 +21,9 @@ GROUPS = [
     Group("Radio states: IDLE, HALT, field loss", waiting.RULES, waiting.met),
     Group("Radio states: READY1, READY2", selection.RULES, selection.met),
     Group("Radio states: ACTIVE", active.RULES, active.met),
+    Group("Q-2: READ 00h in READY1, READY2", reads_at_once.RULES, reads_at_once.met),
+    Group("Q-2: any other READ there", ready_commands.RULES, ready_commands.met),
+    Group("Q-2: ACTIVE, entered by READ 00h", entered_by_read.RULES, entered_by_read.met),
     Group("READ and FAST_READ", reads.RULES, reads.met),
     Group("The counter, GET_VERSION", counter.RULES, counter.met),
     Group("PWD_AUTH", password.RULES, password.met),

@@ -52,7 +52,8 @@ def of_later_read(step):
         return "counter.later/while-off"
     if not step.memory.first_read_found_on:
         return "counter.later/turned-on-since"
-    return "counter.later/while-on" if step.memory.same_stay else "counter.later/in-a-later-stay"
+    same_stay = step.memory.same_stay and step.state == "ACTIVE"
+    return "counter.later/while-on" if same_stay else "counter.later/in-a-later-stay"
 
 
 def of_first_read(image):

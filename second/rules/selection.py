@@ -27,7 +27,7 @@ for _state, _select in [("READY1", "answer 04h (to READY2), with CRC"),
 
 
 def met(step):
-    if not step.frame or step.state not in ("READY1", "READY2"):
+    if not step.frame or step.state not in ("READY1", "READY2") or step.reads_at_once:
         return
     wait = step.before.tag.radio.wait_state()
     code, five, stored_bcc = level_of(step)

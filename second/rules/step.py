@@ -10,7 +10,7 @@ from rules.line import LineStep
 from state import put_state, state_of
 from tag.bits import bits_of, bytes_of
 from tag.calls import EVENTS
-from tag.frames import ACK, COMMANDS, NAK, Frame
+from tag.frames import ACK, COMMANDS, NAK, READ_00H, Frame
 
 ACK_ANSWER = b"answer 4 %02X" % sum(bit << place for place, bit in enumerate(ACK))
 NAK_ANSWERS = {b"answer 4 %02X" % sum(bit << place for place, bit in enumerate(NAK[number])): number
@@ -22,15 +22,19 @@ class FieldMemory(NamedTuple):
 
     first_read_found_on: bool = True    # the first read answered found the counter on
     same_stay: bool = True              # ACTIVE was not entered again since that read
+    entered_by_read_in: str = None      # READY1 or READY2, where READ 00h led to ACTIVE
 
     def after(self, step):
         """The memory when this step is over."""
         before, after = step.before.tag.radio, step.after.tag.radio
-        if after.read_answered and not before.read_answered:
-            return FieldMemory(step.image.layout is not None and step.image.counter_on(), True)
+        memory = self
         if after.state == "ACTIVE" and before.state != "ACTIVE":
-            return self._replace(same_stay=False)
-        return self
+            ready = before.state if step.reads_at_once else None
+            memory = memory._replace(same_stay=False, entered_by_read_in=ready)
+        if after.read_answered and not before.read_answered:
+            on = step.image.layout is not None and step.image.counter_on()
+            memory = memory._replace(first_read_found_on=on, same_stay=True)
+        return memory
 
 
 class Step(LineStep):
@@ -82,9 +86,18 @@ class Step(LineStep):
         return 256 * bus.high + self.byte if whole else bus.counter
 
     @cached_property
+    def reads_at_once(self):
+        """Whether this is the READ 00h of Q-2, in READY1 or READY2."""
+        return (self.frame is not None and self.state in ("READY1", "READY2")
+                and self.frame.parity_good and self.frame.bits == READ_00H)
+
+    @cached_property
     def command(self):
         """The name and the arguments of a command that a tag in ACTIVE was
-        given whole; None and nothing for any other step."""
+        given whole, or that is answered as in ACTIVE; None and nothing for any
+        other step."""
+        if self.reads_at_once:
+            return "READ", (0x00,)
         if not self.frame or self.state != "ACTIVE" or self.nak == 1 or len(self.frame.bits) < 24:
             return None, ()
         data = bytes_of(self.frame.bits)[:-2]

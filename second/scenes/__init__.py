@@ -3,7 +3,7 @@
 A scene takes a Script, which knows the tag, and adds lines to it. The scenes of
 a part have the name of its rules: refusals, waiting, selection, active, reads,
 writes, locks, password, bus, memory, both_sides, lines, memory_lines, records,
-returns. Beside them:
+returns, reads_at_once, ready_commands, entered_by_read. Beside them:
 
     dice        random numbers
     text        the lines of a script

@@ -16,6 +16,7 @@ ACK = "answer 4 0A"
 
 # Pages 0, 1 and 2 of every image here.
 UID_PAGES = "1DA23007 110967EC 93480000"
+FIRST_PAGES = UID_PAGES + "E1101200"    # with page 3
 
 
 class Examples:
@@ -54,10 +55,13 @@ class Examples:
     def select_2(self):
         self.frame("9570 110967EC 93", data_with_crc("00"))
 
-    def to_active(self):
-        """"WUPA and the two right SELECT frames reach ACTIVE in three frames"."""
+    def to_ready_2(self):
         self.wake()
         self.select_1()
+
+    def to_active(self):
+        """"WUPA and the two right SELECT frames reach ACTIVE in three frames"."""
+        self.to_ready_2()
         self.select_2()
 
     def active_on(self, image):
@@ -325,12 +329,69 @@ def refused_memory(e):
     e.line("stop", "done")
 
 
+def read_at_once(e):
+    e.named("Q-2: READ 00h in READY1 or READY2 is answered and counts; the tag is in ACTIVE, not authenticated")
+    e.image(build_image(45, auth0=0x2B, access=access_byte(counter_on=1), counter=0x41))
+    e.wake()
+    e.frame("3000", data_with_crc(FIRST_PAGES))
+    e.line("tag", "tag active idle answered")
+    e.frame("3902", data_with_crc("420000"))
+    e.frame("A22B 01020304", NAK0)
+    e.to_ready_2()
+    e.frame("3000", data_with_crc(FIRST_PAGES))
+    e.frame("3902", data_with_crc("420000"))
+    e.frame("5000", "silence")
+    e.wake()
+    e.frame("3000", data_with_crc(FIRST_PAGES))
+    e.line("tag", "tag active halt answered")
+    e.frame("9570 110967EC 93", NAK0)
+    e.line("tag", "tag halt answered")
+    e.line("field", "field")
+    e.to_ready_2()
+    e.line("frame 32 300002A8", data_with_crc(FIRST_PAGES))
+    e.frame("3902", data_with_crc("430000"))
+
+
+def read_at_once_nak(e):
+    e.named("Q-2: as ACTIVE would answer it, NAK and all: AUTH0 00h, PROT 1: NAK 0h, wait state; AUTH0 01h: page 0")
+    e.image(build_image(45, auth0=0x00, access=access_byte(prot=1, counter_on=1)))
+    e.wake()
+    e.frame("3000", NAK0)
+    e.line("tag", "tag idle")
+    e.to_active()
+    e.frame("5000", "silence")
+    e.to_ready_2()
+    e.frame("3000", NAK0)
+    e.line("tag", "tag halt")
+    e.line("show 2D", "page 00000000")
+    e.image(build_image(45, auth0=0x01, access=access_byte(prot=1)))
+    e.wake()
+    e.frame("3000", data_with_crc("1DA23007 1DA23007 1DA23007 1DA23007"))
+    e.line("show 2D", "page 00000000")
+
+
+def other_read_stays_an_error(e):
+    e.named("Q-2: any other READ there stays an error: silence, wait state")
+    e.image(build_image(45, access=access_byte(counter_on=1)))
+    for to_ready in (e.wake, e.to_ready_2):
+        for line in ("frame 32 300002A9", "frame 32 3000A802", "parity 32 300002A8", "frame 31 30000228",
+                     "frame 33 300002A800", "frame 40 300002A800", "frame 16 3000"):
+            to_ready()
+            e.line(line, "silence")
+            e.line("tag", "tag idle")
+        for data in ("3001", "3004", "30FF", "30", "300000", "3A0000", "3A0003"):
+            to_ready()
+            e.frame(data, "silence")
+            e.line("tag", "tag idle")
+    e.line("show 2D", "page 00000000")
+
+
 EXAMPLES = [
     check_bytes, read_rolls_at_size, read_rolls_at_auth0, read_one_page, fast_read_one_page,
     block_bit_holds, page_3_gains, lock_bit_0, counter_at_its_end, password_limit,
     anticollision_of_four_bits, bus_rolls_over, window_end, start_drops, three_frames,
     crc_examples, memory_rolls_over, memory_keeps_nothing_back, memory_read_rolls, either_region,
-    refused_memory,
+    refused_memory, read_at_once, read_at_once_nak, other_read_stays_an_error,
 ]
 
 

@@ -171,6 +171,7 @@ def spoiled_lines(s, amount):
 
 
 def any_spoiled_lines(s):
+    s.image(s.dice.size())
     spoiled_lines(s, s.dice.between(20, 60))
 
 

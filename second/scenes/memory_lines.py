@@ -79,7 +79,8 @@ def new_memories(s):
     s.image(45)
     for phase in PHASES:
         some = [dice.one_of(["IDLE", "HALT"]), dice.one_of(["READY1", "READY2"]), "ACTIVE"]
-        for state in dice.shuffled(STATES if phase in ("rest", "write", "deaf") else some):
+        states = dice.shuffled(STATES if phase in ("rest", "write", "deaf") else some)
+        for state, length in zip(states, [16384, 16383] + dice.some(3, [0, 1, 44, 1000, 16384])):
             s.reach(state)
             if state == "ACTIVE" and dice.one_in(2):
                 s.authenticate()
@@ -89,13 +90,12 @@ def new_memories(s):
             s.to_phase(phase, place)
             if phase == "write":
                 s.send(*dice.bytes(dice.between(1, 3)))
-            new_memory(s)
+            new_memory(s, length)
             s.look_at_bus()
 
 
-def new_memory(s):
+def new_memory(s, length):
     """Of the right length, or of another one and then of the right one."""
-    length = s.dice.one_of([0, 1, 44, 1000, 16383, 16384, 16384, 16384])
     s.say(f"memory {length}")
     s.ask()
     s.recall(0, 4)

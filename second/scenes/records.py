@@ -7,11 +7,17 @@ COUNTS_ASKED = [0, 1, 2, 3, 9, 10, 62, 63, 64, 65, 66, 127, 128, 129, 255, 256, 
 
 def every_tag_record(s):
     """`tag` in each state, with each wait state, authenticated or not, before and
-    after the field's first READ, in the middle of a write. Asked twice: the
-    question changes nothing."""
+    after the field's first READ, in the middle of a write and while a low address
+    byte is expected. Asked twice: the question changes nothing."""
     s.image(45)
     s.address(0x4020)
     s.send(0x5A, 0xA5)
+    ask_in_every_state(s)
+    s.to_phase("low", 0x4020)
+    ask_in_every_state(s)
+
+
+def ask_in_every_state(s):
     for read_answered in (False, True):
         s.say("field")
         s.reads_on_entry = read_answered
@@ -86,8 +92,10 @@ def every_bus_record_in_memory(s):
 
 
 def high_bytes(s):
-    """The high address byte that is held, whatever it is; a read in between keeps it."""
+    """The high address byte that is held, whatever it is; a read in between keeps it.
+    The counter is where an address was sent before."""
     s.image(45)
+    s.address(s.dice.between(0x4010, 0x4090))
     for way in (s.authenticate, lambda: s.reach("HALT")):
         way()
         for high in (0x00, 0x01, 0x0F, 0x10, 0x3F, 0x40, 0x41, 0x9F, 0xA0, 0xFA, 0xFF):
@@ -135,16 +143,20 @@ def bus_after_each_step(s, size):
 
 def shown_pages(s, size):
     """`show HH` of pages of each kind, of the tail's and of those behind it, by a tag
-    in the middle of things: PWD and PACK are shown as they are, and nothing changes."""
+    in the middle of things, in a write or while a low address byte is expected: PWD
+    and PACK are shown as they are, and nothing changes."""
     s.image(size)
     s.active(authenticated=True)
-    s.address(0x4012)
-    s.send(0x5A, 0xA5)
     layout = s.layout
-    for page in [0, 1, 2, 3, 4, 0x0A, 0x3F, 0x40, 0x41, 0x7F, 0x80, 0xC0, layout.lock_page, *layout.settings,
-                 layout.pwd, layout.pack, size, size + 1, size + 2, s.dice.between(size + 2, 0xFE), 0xFF]:
-        s.say(f"show {page:02X}" if s.dice.one_in(2) else f"show {page:02x}")
-        s.ask()
+    pages = [0, 1, 2, 3, 4, 0x0A, 0x3F, 0x40, 0x41, 0x7F, 0x80, 0xC0, layout.lock_page, *layout.settings,
+             layout.pwd, layout.pack, size, size + 1, size + 2, s.dice.between(size + 2, 0xFE), 0xFF]
+    for phase in ("write", "low"):
+        s.to_phase(phase, 0x4012)
+        if phase == "write":
+            s.send(0x5A, 0xA5)
+        for page in pages:
+            s.say(f"show {page:02X}" if s.dice.one_in(2) else f"show {page:02x}")
+            s.ask()
 
 
 def shown_at_once(s):

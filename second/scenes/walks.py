@@ -3,9 +3,10 @@
 from rules.selection import FAULTS
 from scenes.lines import odd_lines
 from scenes.plausible import any_command_bits, any_image
+from scenes.ready_commands import OTHERS, other_frame
 from scenes.selection import faulty_ready_frame, flipped
 from tag.bits import bits_of
-from tag.frames import REQA, WUPA
+from tag.frames import READ_00H, REQA, WUPA
 
 
 def damaged(s, bits):
@@ -23,6 +24,14 @@ def damaged(s, bits):
     if mishap == 4 and len(bits) > 16:
         return bits[:-16] + [dice.below(2) for _ in range(16)], True
     return bits_of(dice.bytes(dice.between(1, 12)))[:dice.between(1, 96)], not dice.one_in(4)
+
+
+def read_at_once_or_nearly(s):
+    """READ 00h for READY1 or READY2, as often as not a frame that only looks like it."""
+    dice = s.dice
+    if dice.one_in(2):
+        return READ_00H, True
+    return damaged(s, READ_00H) if dice.one_in(3) else other_frame(s, dice.one_of(OTHERS))
 
 
 def wrongly_written_frame(s):
@@ -43,6 +52,8 @@ def radio_step(s):
         s.frame(*(damaged(s, bits) if dice.one_in(8) else (bits, True)))
     elif dice.one_in(10) and state in ("READY1", "READY2"):
         s.frame(*faulty_ready_frame(s, dice.one_of(FAULTS)))
+    elif dice.one_in(5) and state in ("READY1", "READY2"):
+        s.frame(*read_at_once_or_nearly(s))
     elif dice.one_in(10):
         s.frame(*damaged(s, dice.one_of([REQA, WUPA, any_command_bits(s)])))
     else:

@@ -2,7 +2,7 @@
 
 Document 01 ("Build specification and rules: the corridor tag") decides what
 the tag does, and document 02 ("Requests from the schools' year") amends it:
-so far Q-1. Sentences in quotation marks are taken from them. This second
+so far Q-1 and Q-2. Sentences in quotation marks are taken from them. This second
 opinion leans on nothing but these documents: bits are lists of 0 and 1 with the
 least significant first, pages are four bytes each, and locks are sets of page
 numbers. What is kept from call to call is plain values, replaced and never

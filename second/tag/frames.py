@@ -1,10 +1,13 @@
 """What frames and short answers look like."""
 
-from tag.bits import bits_of
+from tag.bits import bits_of, with_crc
 
 REQA = bits_of([0x26])[:7]      # "REQA (7 bits, 26h)"
 WUPA = bits_of([0x52])[:7]      # "WUPA (7 bits, 52h)"
 ATQA = bits_of([0x44, 0x00])    # "answers 44h 00h, 16 bits, no CRC"
+
+# Document 02, Q-2: "A whole READ frame for address 00h with good [...] CRC"
+READ_00H = with_crc([0x30, 0x00])
 
 SILENCE = []                    # "Silence is count 0."
 ACK = bits_of([0x0A])[:4]       # "ACK (Ah) and NAK are count 4."

@@ -1,6 +1,8 @@
-"""Frames in READY1 and READY2: anticollision and SELECT."""
+"""Frames in READY1 and READY2: anticollision, SELECT, and the READ that skips them."""
 
+from tag.active import in_active
 from tag.bits import bits_of, with_crc
+from tag.frames import READ_00H
 
 
 def in_ready(radio, frame):
@@ -15,7 +17,10 @@ def in_ready(radio, frame):
     if frame.parity_good and is_anticollision(frame.bits, code, five):
         # "The answer is the other 40-n, without CRC."
         return bits_of(five)[told_bits(frame.bits):]
+    if frame.parity_good and frame.bits == READ_00H:
+        return read_at_once(radio, frame)
     # "Anything else, bad parity and a non-match among them: silence, wait state."
+    # Document 02, Q-2: "Any other READ there stays an error."
     return radio.silent()
 
 
@@ -48,3 +53,12 @@ def selected(radio):
         return with_crc([0x04])
     radio.state = "ACTIVE"
     return with_crc([0x00])
+
+
+def read_at_once(radio, frame):
+    """Document 02, Q-2: "Source document 002 allows this and takes the tag to
+    ACTIVE; document 01 sends it to the wait state, which is wrong." It "is to be
+    answered as ACTIVE would answer it, NAK and all", and "Every NAK goes to the
+    wait state." """
+    radio.state = "ACTIVE"
+    return in_active(radio, frame)

@@ -16,6 +16,8 @@ get another answer from each of them than from the right one.
     by_hand     wrong by hand: mistakes of a tag that are more than a slip
     by_hand_memory
                 mistakes about the data memory and its lines
+    by_hand_ready
+                mistakes about READ 00h in READY1 and READY2
     by_hand_lines
                 mistakes in reading lines, in both programs
     readers     wrong by reading: input that comes in chunks, read wrongly

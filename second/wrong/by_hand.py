@@ -8,6 +8,7 @@ the text that takes its place. Those of `workshop` are in the package of that na
 from lines.reading import LONGEST_LINE
 from wrong.by_hand_lines import of_lines
 from wrong.by_hand_memory import OF_MEMORY, OF_MEMORY_LINES
+from wrong.by_hand_ready import OF_READY
 
 NEW_BUS = "self.bus = Bus(self.image, self.data_memory)"
 PAGE_SHOWN = "image[4 * page:4 * page + 4]"
@@ -29,6 +30,7 @@ BY_HAND = {
     "selection uses the stored BCC1": (
         "tag.image", "four = list(self.pages[1])\n        return four + [exclusive_or(four)]",
         "return [*self.pages[1], self.pages[2][0]]"),
+    **OF_READY,
     "parity is judged in IDLE": (
         "tag.waiting", "frame.bits in (REQA, WUPA)", "frame.parity_good and frame.bits in (REQA, WUPA)"),
     "parity is judged in HALT": (

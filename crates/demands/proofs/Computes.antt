@@ -14,7 +14,7 @@ use Rattle.reads.specs.Read.{bound, seen, pageByte, pagesFrom, counting, readAn
 use Rattle.commands.specs.Commands.{underPassword, refuses, write as commandsCommandsWrite, sizeCode, version, readCount, limitReached, same, failing, wrongCounted, accepted, rejected, pwdAuth, hlta}
 use Rattle.active.specs.Frame.{commandOf, inActive}
 use Rattle.selection.specs.Selection.{isReqa, isWupa, wakes, inIdle, inHalt, forty, own1, own2, sent as selectionSelectionSent, asks, known, anticollision, select, inReady, inReady1, inReady2}
-use Rattle.radio.specs.Heard.{heard}
+use Rattle.radio.specs.Heard.{isReadZero, hearing, heard}
 use Rattle.radio.specs.Call.{padded, isFrame, refusal, taken, calledAt, called}
 use Rattle.radio.specs.Reach.{wupa, select1, select2}
 use Rattle.tag.specs.Record.{waitOf, stateOf, meant, tagOf, flagOf, recordOf, fieldLoss}
@@ -24,5 +24,5 @@ use Rattle.demands.specs.Demand.{Holds}
 use Rattle.demands.specs.Wrong.{lazy, unless, once}
 
 unfoldable pub computes : Unit {0}
-unfolding polynomial start shifted shiftedBy byteIn bytesIn crcA crcaCrcASent withCrc crcRight lockBits pagesEach lockOf locksLockedBy clearAt staticBlock mayStatic staticGain dynamicBlock mayDynamic dynamicGain mayBlock blockGain rowFor rowAt firstRow mayRow sizeOf byte fourAt pageAt bytesOf store regionOf shown counterIn counter nextCount counted withFailed uid bcc0 bcc1 statics dynamics blocks lockedBy staticsWritten capabilityWritten dynamicsWritten writtenIn written imageWriteWrite bitsOf byteOf lowBytes answerOf over apply lost ack nakAfter says fieldOff moved halted answering bound seen pageByte pagesFrom counting readAnswered read fastRead underPassword refuses commandsCommandsWrite sizeCode version countReadable readCount limitReached same failing wrongCounted accepted rejected pwdAuth hlta commandOf inActive isReqa isWupa wakes inIdle inHalt forty own1 own2 selectionSelectionSent asks known anticollision select inReady inReady1 inReady2 heard padded isFrame refusal taken calledAt called wupa select1 select2 waitOf stateOf meant tagOf flagOf recordOf fieldLoss Holds ours fromOff next atEnd imageAfter acks dataFor newFor lastWritten carries offers noneOffers lazy unless once
+unfolding polynomial start shifted shiftedBy byteIn bytesIn crcA crcaCrcASent withCrc crcRight lockBits pagesEach lockOf locksLockedBy clearAt staticBlock mayStatic staticGain dynamicBlock mayDynamic dynamicGain mayBlock blockGain rowFor rowAt firstRow mayRow sizeOf byte fourAt pageAt bytesOf store regionOf shown counterIn counter nextCount counted withFailed uid bcc0 bcc1 statics dynamics blocks lockedBy staticsWritten capabilityWritten dynamicsWritten writtenIn written imageWriteWrite bitsOf byteOf lowBytes answerOf over apply lost ack nakAfter says fieldOff moved halted answering bound seen pageByte pagesFrom counting readAnswered read fastRead underPassword refuses commandsCommandsWrite sizeCode version countReadable readCount limitReached same failing wrongCounted accepted rejected pwdAuth hlta commandOf inActive isReqa isWupa wakes inIdle inHalt forty own1 own2 selectionSelectionSent asks known anticollision select inReady inReady1 inReady2 isReadZero hearing heard padded isFrame refusal taken calledAt called wupa select1 select2 waitOf stateOf meant tagOf flagOf recordOf fieldLoss Holds ours fromOff next atEnd imageAfter acks dataFor newFor lastWritten carries offers noneOffers lazy unless once
 computes = tt

@@ -29,6 +29,10 @@ proved-table = record {
   other = refl;
   wires = (the-examples .rolls45, the-examples .rolls135, the-examples .rolls231);
   memory = (memory-examples 45 refl, memory-examples 135 refl, memory-examples 231 refl);
+  atOnce = (refl, refl);
+  atOnceGuarded = (refl, refl);
+  atOnceOther = (refl, refl);
+  atOnceCounts = (refl, refl);
   together = refl;
   lockedPage = (refl, refl);
 }

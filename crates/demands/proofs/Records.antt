@@ -20,6 +20,7 @@ record-cases = record {
   noAnswered = (refl, refl);
   wakes = (refl, refl);
   sleeps = (refl, refl);
+  entersOut = refl;
   fieldLosses = (refl, refl, refl);
   refusedImage = (refl, refl);
   refusedBuffer = (refl, refl, refl);

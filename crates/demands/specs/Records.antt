@@ -5,6 +5,7 @@ use mathlib.Core.List.{List, [], _∷_}
 use mathlib.Core.Bool.{Bool, true, false}
 use Prim.Native.Nat.{ℕ}
 use lib.ListN.{getD, replicate}
+use Rattle.crc_a.specs.CrcA.{withCrc}
 use Rattle.tag.specs.declared.state.Wait.the-variants.{ToIdle, ToHalt}
 use Rattle.tag.specs.declared.state.State.{State}
 use Rattle.tag.specs.declared.state.State.the-variants.{Idle, Halt, Ready1, Ready2, Active}
@@ -65,6 +66,8 @@ pub record RecordCases : Type 0 where
   -- .. in the frame call: REQA wakes it, though its state is HALT, and no read counts as answered
   pub wakes : (reqa (board 45) 1024 (numbers 1 0 0 2) .reply ≡ plain 16 0x44) × (reqa (board 45) 1024 (numbers 1 0 0 2) .left ≡ numbers 2 0 0 0)
   pub sleeps : (reqa (board 45) 1024 (numbers 1 0 0 1) .reply ≡ silence) × (reqa (board 45) 1024 (numbers 1 0 0 1) .left ≡ numbers 1 0 0 1)
+  -- .. READ 00h in READY1 enters ACTIVE unauthenticated, though the record's flag is set, which READY1 has no use for
+  pub entersOut : called (board 45) 1024 (numbers 2 1 1 0) (withCrc (0x30 ∷ 0x00 ∷ [])) 32 true .left ≡ numbers 4 1 0 1
   pub fieldLosses : (fieldLoss (numbers 4 1 1 2) ≡ numbers 0 0 0 0) × (fieldLoss (numbers 9 9 9 9) ≡ numbers 0 0 0 0) × (fieldLoss (numbers 4 1 1 1) ≡ numbers 0 0 0 0)
   -- "A refused call returns its number, no answer, the records it was given"
   pub refusedImage : (reqa [] 1024 (numbers 9 9 9 9) .refused ≡ 1) × (reqa [] 1024 (numbers 9 9 9 9) .left ≡ numbers 9 9 9 9)

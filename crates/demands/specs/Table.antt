@@ -11,9 +11,10 @@ use Rattle.image.specs.Layout.{pageAt}
 use Rattle.image.specs.Uid.{bcc0, bcc1}
 use Rattle.image.specs.Write.{locked}
 use Rattle.image.specs.Tail.{counter}
-use Rattle.tag.specs.declared.state.Wait.the-variants.{ToIdle}
-use Rattle.tag.specs.declared.state.State.the-variants.{Ready1, Active}
+use Rattle.tag.specs.declared.state.Wait.the-variants.{ToIdle, ToHalt}
+use Rattle.tag.specs.declared.state.State.the-variants.{Ready1, Ready2, Active}
 use Rattle.tag.specs.declared.state.Tag.{Tag}
+use Rattle.tag.specs.State.{fieldOff}
 use Rattle.tag.specs.Outcome.{build, Reply, silence, nibble, bytes, bitsOf, answerOf, keep, apply}
 use Rattle.tag.specs.Record.{recordOf}
 use Rattle.radio.specs.Call.{Called, called}
@@ -43,9 +44,16 @@ inActive = record { state = Active ToIdle false; answered = false }
 abbrev pub inReady1 : Tag
 inReady1 = record { state = Ready1 ToIdle; answered = false }
 
+-- woken from HALT
+abbrev pub inReady2 : Tag
+inReady2 = record { state = Ready2 ToHalt; answered = false }
+
 -- a right frame
+abbrev pub askedIn : Tag → List ℕ → List ℕ → Called
+askedIn t img command = called img 1024 (recordOf t) (withCrc command) (8 * (length command + 2)) true
+
 abbrev pub asked : List ℕ → List ℕ → Called
-asked img command = called img 1024 (recordOf inActive) (withCrc command) (8 * (length command + 2)) true
+asked = askedIn inActive
 
 abbrev pub left : List ℕ → List ℕ → List ℕ
 left img command = apply img (asked img command .effect)
@@ -131,6 +139,15 @@ pub record ProvedTable : Type 0 where
   pub wires : (RollsOver 45) × (RollsOver 135) × (RollsOver 231)
   -- Q-1's: the same at 3FFEh, reads from 3FFFh on, the addresses on both sides of 4000h, and the order of the refusals, at each size
   pub memory : (MemoryExamples 45) × (MemoryExamples 135) × (MemoryExamples 231)
+  -- Q-2's: READ 00h in READY1 answers pages 0 to 3, and the tag is in ACTIVE; with AUTH0 00h and PROT it is NAK 0h, and the tag is in IDLE
+  pub atOnce : (askedIn inReady1 (plain 45) read0 .reply ≡ bytes (0 ∷ 0 ∷ 0 ∷ 0 ∷ 1 ∷ 1 ∷ 1 ∷ 1 ∷ 2 ∷ 2 ∷ 0 ∷ 0 ∷ 3 ∷ 3 ∷ 3 ∷ 3 ∷ []))
+      × (askedIn inReady1 (plain 45) read0 .left ≡ recordOf (record { state = Active ToIdle false; answered = true }))
+  pub atOnceGuarded : (askedIn inReady1 (board 45 0x00 0x80 zeros) read0 .reply ≡ nak0) × (askedIn inReady1 (board 45 0x00 0x80 zeros) read0 .left ≡ recordOf fieldOff)
+  -- and READ 04h: silence, wait state
+  pub atOnceOther : (askedIn inReady1 (plain 45) (0x30 ∷ 0x04 ∷ []) .reply ≡ silence) × (askedIn inReady1 (plain 45) (0x30 ∷ 0x04 ∷ []) .left ≡ recordOf fieldOff)
+  -- in READY2 it counts, and HALT stays the wait state of a tag that was woken from there
+  pub atOnceCounts : (counter 45 (apply counting (askedIn inReady2 counting read0 .effect)) ≡ 0xFFFFFF)
+      × (askedIn inReady2 counting read0 .left ≡ recordOf (record { state = Active ToHalt false; answered = true }))
   -- our own: a block bit and a lock under it, set at once: the old block bits decide
   pub together : getD (left (plain 45) (0xA2 ∷ 0x02 ∷ 0x00 ∷ 0x00 ∷ 0x09 ∷ 0x00 ∷ [])) 10 0 ≡ 0x09
   -- our own: a locked page that a WRITE doesn't change

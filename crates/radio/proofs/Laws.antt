@@ -1,5 +1,5 @@
 -- What each way through the frame call shows. Assumes nothing.
-use mathlib.Core.Path.{_≡_, refl, sym, ap, _∙_, subst⁻¹}
+use mathlib.Core.Path.{_≡_, refl, sym, ap, _∙_}
 use mathlib.Core.List.{List}
 use mathlib.Core.Bool.{Bool, true, false}
 use Prim.Native.Nat.{ℕ, _+_, _/_, _%_, _^_, _≤_, _<_}
@@ -13,28 +13,16 @@ use Rattle.image.specs.declared.layout.Size.{Size}
 use Rattle.image.specs.declared.layout.Size.the-variants.{Pages, Unknown}
 use Rattle.image.specs.Layout.{sizeOf, Fits}
 use Rattle.image.proofs.Laws as image
-use Rattle.tag.specs.declared.state.State.{State}
 use Rattle.tag.specs.declared.state.Tag.{Tag}
 use Rattle.tag.specs.declared.outcome.Step.{Step}
 use Rattle.tag.specs.Outcome.{bitsOf, answerOf, over, apply, Did, answerRoom}
 use Rattle.tag.proofs.Laws.{answer-bytes}
 use Rattle.basics.proofs.Choice.{and-left, and-right}
 use Rattle.tag.specs.Record.{tagOf, recordOf}
-use Rattle.radio.specs.Heard.{heardIn, heard}
+use Rattle.radio.specs.Heard.{heard}
 use Rattle.radio.specs.Call.{padded, isFrame, refusal, taken, calledAt, called, Met}
 use Rattle.tag.specs.declared.record.TagRecord.{TagRecord}
 use Rattle.radio.specs.declared.call.Answer.{Answer}
-
--- ---- the state
-
-module _ (n : ℕ) (img : List ℕ) (t : Tag) (f : List ℕ) (bits : ℕ) (parity : Bool) (r : Step) (s s′ : State) (e : s ≡ t .state) (g : s ≡ s′) (before after : List ℕ) where
-  pub heard-by : (image′ : List ℕ) → Did (heardIn s′ n img t f bits parity) r img image′ before after → Did (heard n img t f bits parity) r img image′ before after
-  unfolding heard
-  heard-by image′ h = subst⁻¹ (λ (x : State). Did (heardIn x n img t f bits parity) r img image′ before after) (sym e ∙ g) h
-
-  -- where the image isn't lent for a change
-  pub heard-any : ((i : List ℕ) → Did (heardIn s′ n img t f bits parity) r i i before after) → Did (heard n img t f bits parity) r img img before after
-  heard-any h = heard-by img (h img)
 
 -- ---- refusals
 

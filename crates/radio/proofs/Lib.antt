@@ -1,3 +1,5 @@
+pub mod Hearing
+pub mod AtOnce
 pub mod Laws
 pub mod Once
 pub mod Reach

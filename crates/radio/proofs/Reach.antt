@@ -17,7 +17,7 @@ use Rattle.tag.specs.State.{fieldOff, moved, selected}
 use Rattle.tag.specs.Outcome.{plain, keep, does, says, answerRoom}
 use Rattle.selection.specs.Selection.{isReqa, isWupa, wakes, inIdle, forty, own1, own2, sent, select, inReady, inReady1, inReady2}
 use Rattle.tag.specs.Record.{recordOf, fieldLoss}
-use Rattle.radio.specs.Heard.{heard}
+use Rattle.radio.specs.Heard.{isReadZero, hearing, heard}
 use Rattle.radio.specs.Call.{Called, padded, isFrame, taken, calledAt, called}
 use Rattle.radio.specs.Reach.{wupa, select1, select2, first, second, third, Reaches}
 use Rattle.tag.specs.declared.record.TagRecord.{TagRecord}
@@ -53,18 +53,18 @@ module _ (n room : ℕ) (img : List ℕ) (r : TagRecord) (size : sizeOf (length 
   heard-call t f bits parity e = rw (size, le-leb answerRoom room enough, e, read-again t)
 
   woken-up : first img room r ≡ taken (does (plain 16 0x0044) keep ready1)
-  unfolding first fieldLoss fieldOff wupa heard inIdle isReqa isWupa wakes moved isFrame padded ready1
+  unfolding first fieldLoss fieldOff wupa heard hearing isReadZero inIdle isReqa isWupa wakes moved isFrame padded ready1
   woken-up = heard-call fieldOff wupa 7 true refl
 
   selected-once : second img room r ≡ taken (says (0x04 ∷ []) keep ready2)
-  unfolding second taken ready1 ready2 select1 five heard inReady1 own1 moved
+  unfolding second taken ready1 ready2 select1 five heard hearing isReadZero inReady1 own1 moved
   selected-once =
       ap (λ (c : Called). called img room (c .left) (select1 img) 72 true) woken-up
       ∙ heard-call ready1 (select1 img) 72 true (select-framed 0x93 cascadeTag (uid img 0) (uid img 1) (uid img 2) (bcc0 img))
       ∙ ap taken (select-heard 0x93 cascadeTag (uid img 0) (uid img 1) (uid img 2) (bcc0 img) ready1 0x04)
 
   selected-twice : third img room r ≡ taken (says (0x00 ∷ []) keep active)
-  unfolding third taken ready2 active select2 five heard inReady2 own2 moved says
+  unfolding third taken ready2 active select2 five heard hearing isReadZero inReady2 own2 moved says
   selected-twice =
       ap (λ (c : Called). called img room (c .left) (select2 img) 72 true) selected-once
       ∙ heard-call ready2 (select2 img) 72 true (select-framed 0x95 (uid img 3) (uid img 4) (uid img 5) (uid img 6) (bcc1 img))

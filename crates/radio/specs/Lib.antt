@@ -1,3 +1,4 @@
 pub mod Heard
+pub mod AtOnce
 pub mod Call
 pub mod Reach

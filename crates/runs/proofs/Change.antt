@@ -2,7 +2,7 @@
 -- other bytes, with no smaller counter. Only the password authenticates, and silence keeps the image. Assumes nothing.
 use mathlib.Core.Path.{_≡_, refl, sym, ap, _∙_}
 use mathlib.Core.List.{List, [], _∷_}
-use mathlib.Core.Bool.{true, false, not, _&&_, _||_}
+use mathlib.Core.Bool.{Bool, true, false, not, _&&_, _||_}
 use Prim.Native.Nat.{ℕ, _+_, _*_, _/_, _%_, _^_, _≤_}
 use native.Mathlib.Nat.{le-refl}
 use native.Mathlib.Omega.{arith}
@@ -22,17 +22,17 @@ use Rattle.tag.specs.declared.state.Wait.the-variants.{ToIdle, ToHalt}
 use Rattle.tag.specs.declared.state.State.{State}
 use Rattle.tag.specs.declared.state.State.the-variants.{Idle, Halt, Ready1, Ready2, Active}
 use Rattle.tag.specs.declared.state.Tag.{Tag}
-use Rattle.tag.specs.State.{moved, woken, waitState, backToWait, selected, halted, authenticatedIn, authenticated, answering}
+use Rattle.tag.specs.State.{moved, woken, waitState, backToWait, selected, activated, halted, authenticatedIn, authenticated, answering}
 use Rattle.tag.specs.Outcome.{Reply, silence, nibble, bytes, plain, bitsOf, answerOf, Effect, keep, put, apply, Does, does, lost, ack, nakAfter, nak, says, answerRoom}
 use Rattle.reads.specs.Read.{bound, pagesFrom, counting, readAnswered, read, fastRead}
-use Rattle.commands.specs.Commands.{refuses, write, version, readCount, limitReached, same, failing, wrongCounted, accepted, rejected, pwdAuth, hlta}
+use Rattle.commands.specs.Commands.{underPassword, refuses, write, version, readCount, limitReached, same, failing, wrongCounted, accepted, rejected, pwdAuth, hlta}
 use Rattle.active.specs.declared.Command.{Command}
 use Rattle.active.specs.declared.Command.the-variants.{Read, FastRead, Write, Version, Count, Auth, Hlta, Unknown}
 use Rattle.active.specs.Frame.{lengthOf, named, commandOf, done, inActive}
 use Rattle.selection.specs.Selection.{isReqa, isWupa, wakes, inIdle, inHalt, own1, own2, sent as forty, asks, known, anticollision, select, inReady, inReady1, inReady2}
 use Rattle.tag.specs.declared.record.TagRecord.{TagRecord}
 use Rattle.tag.specs.Record.{tagOf}
-use Rattle.radio.specs.Heard.{heardIn, heard}
+use Rattle.radio.specs.Heard.{heardIn, isReadZero, hearing, heard}
 use Rattle.radio.specs.Call.{isFrame, Called, refusal, taken, calledAt, called}
 use Rattle.radio.proofs.Laws.{frame-whole}
 use Rattle.tag.proofs.Recorded.{read-again}
@@ -77,6 +77,18 @@ moves-out Halt e = (refl, refl)
 moves-out (Ready1 w) e = (refl, refl)
 moves-out (Ready2 w) e = (refl, refl)
 moves-out (Active w a) e = (e, e)
+
+-- READ of page 00h in READY1 and READY2: "ACTIVE is entered unauthenticated."
+activated-out : (s : State) → authenticatedIn (activated s) ≡ authenticatedIn s
+activated-out Idle = refl
+activated-out Halt = refl
+activated-out (Ready1 w) = refl
+activated-out (Ready2 w) = refl
+activated-out (Active w a) = refl
+
+hearing-out : (s : State) (f : List ℕ) (bits : ℕ) (parity : Bool) → authenticatedIn (hearing s f bits parity) ≡ authenticatedIn s
+unfolding hearing
+hearing-out s f bits parity = by (λ (x : State). authenticatedIn x ≡ authenticatedIn s) (isReadZero f bits parity) (λ _. activated-out s) (λ _. refl)
 
 -- ---- leaves
 
@@ -229,6 +241,20 @@ module _ (n : ℕ) (img : List ℕ) (t : Tag) (f : Frame) where
     heard-step (Ready2 w) = ready-step 0x95 (own2 img) 0x00 (unknown-code (f .bytes) 0x95 refl)
     heard-step (Active w a) = active-step
 
+-- what a tag does is what another does of which only the state differs, and that not in its authentication
+module _ (n : ℕ) (img : List ℕ) (t u : Tag) (f : Frame) (same : authenticated u ≡ authenticated t) where
+  refuses-alike : (a : ℕ) → refuses n img u a ≡ refuses n img t a
+  unfolding refuses underPassword
+  refuses-alike a = rw same
+
+  change-alike : (c : Command) (o : Reply) (e : Effect) → Change n img u c o e → Change n img t c o e
+  change-alike c o e (kept k q) = kept k q
+  change-alike c o e (stored a d w r k q) = stored a d w (sym (refuses-alike a) ∙ r) k q
+  change-alike c o e (tailed v l k q) = tailed v l k q
+
+  steps-alike : (d : Does) → Steps n img u f d → Steps n img t f d
+  steps-alike d s = record { change = change-alike _ _ _ (s .change); auth = λ a q. s .auth (same ∙ a) q; hush = s .hush }
+
 -- ---- the call
 
 -- what comes out of a call, with its record read
@@ -238,13 +264,16 @@ doneBy o = does (o .reply) (o .effect) (tagOf (o .left))
 -- on an image of n pages
 pub call-step : (n : ℕ) (img : List ℕ) (r : TagRecord) (f : Frame) → sizeOf (length img) ≡ Pages n
     → Step n img (tagOf r) (commandOf (f .bytes)) (offers (pageAt img (pwdPage n)) (sent f) ≡ false) (doneBy (ours img r f))
-unfolding ours called calledAt taken refusal heard
+unfolding ours called calledAt taken refusal heard moved
 call-step n img r f size =
     let t = tagOf r in
+    let s = hearing (t .state) (f .bytes) (f .bits) (f .parity) in
+    let u = moved t s in
     let P : Called → Type 0 = λ o. Steps n img t f (doneBy o) in
     rw size
     (by P (leb answerRoom (f .room))
     (λ _. by P (isFrame (f .bytes) (f .bits))
-    (λ e. rw read-again (heard-step n img t f (frame-whole (f .bytes) (f .bits) _ refl e) (t .state)))
+    (λ e. let whole = frame-whole (f .bytes) (f .bits) _ refl e in
+    rw read-again (steps-alike n img t u f (hearing-out (t .state) (f .bytes) (f .bits) (f .parity)) _ (heard-step n img u f whole s)))
     (λ _. silent-step n img t f t (λ a. a)))
     (λ _. silent-step n img t f t (λ a. a)))

@@ -67,7 +67,9 @@ unfoldable pub select : Tag → List ℕ → ℕ → ℕ → ℕ → Does
 select t f bits own sak =
     cond (eqb bits 72 && (eqb (sent f) own && crcRight f)) (says (sak ∷ []) keep (moved t (selected (t .state)))) (lost t)
 
--- "Anything else, bad parity and a non-match among them: silence, wait state."
+-- "Anything else, bad parity and a non-match among them: silence, wait state." Document 02, Q-2, takes one frame out of anything else: "A whole READ
+-- frame for address 00h with good parity and CRC is to be answered as ACTIVE would answer it, NAK and all. Any other READ there stays an error." That
+-- frame doesn't come here: `heard` (crates/radio/specs/Heard.antt) hears it in ACTIVE.
 unfoldable pub inReady : Tag → List ℕ → ℕ → Bool → ℕ → ℕ → ℕ → Does
 inReady t f bits parity code own sak =
     cond (parity && eqb (arg f 0) code)

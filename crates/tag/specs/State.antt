@@ -44,6 +44,15 @@ selected (Ready1 w) = Ready2 w
 selected (Ready2 w) = Active w false
 selected (Active w a) = Active w a
 
+-- document 02, Q-2, of a reader that sends READ with address 0 "while the tag is still in READY1 or READY2": "Source document 002 allows this and
+-- takes the tag to ACTIVE"; and document 01: "ACTIVE is entered unauthenticated."
+abbrev pub activated : State → State
+activated Idle = Idle
+activated Halt = Halt
+activated (Ready1 w) = Active w false
+activated (Ready2 w) = Active w false
+activated (Active w a) = Active w a
+
 -- "HLTA is 50h 00h: silence, HALT"
 unfoldable pub halted : State → State
 halted s = Halt

@@ -1,6 +1,6 @@
 // The tag's radio state, and its moves.
 ghost use mathlib.Core.Path.{_≡_};
-ghost use Rattle.tag.specs.State.{fieldOff, fieldLost, moved, woken, waitState, backToWait, selected, halted, granted, authenticated, answering};
+ghost use Rattle.tag.specs.State.{fieldOff, fieldLost, moved, woken, waitState, backToWait, selected, activated, halted, granted, authenticated, answering};
 
 // The state to go back to.
 pub enum Wait {
@@ -49,6 +49,18 @@ impl State {
             State::Halt => State::Halt,
             State::Ready1(w) => State::Ready2(w),
             State::Ready2(w) => State::Active(w, false),
+            State::Active(w, a) => State::Active(w, a),
+        }
+    }
+
+    // Read in READY1 or READY2, to ACTIVE.
+    pub fn activated(self) -> State
+        ensures { λ r. ⌜ r ≡ activated self ⌝ }
+    {
+        match self {
+            State::Idle => State::Idle,
+            State::Halt => State::Halt,
+            State::Ready1(w) | State::Ready2(w) => State::Active(w, false),
             State::Active(w, a) => State::Active(w, a),
         }
     }
