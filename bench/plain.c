@@ -392,13 +392,15 @@ corridor_answer plain_frame(uint8_t *image, size_t image_length, uint8_t *answer
         return given;
 
     given.left = with_meaning(held);
-    if ((given.left.state == CORRIDOR_READY1 || given.left.state == CORRIDOR_READY2) && reads_zero(frame, bits, parity_good))
-        given.left.state = CORRIDOR_ACTIVE;
     switch (given.left.state) {
     case CORRIDOR_READY1:
     case CORRIDOR_READY2:
-        given.bits = in_ready(image, &given.left, frame, bits, parity_good, answer);
-        break;
+        if (!reads_zero(frame, bits, parity_good)) {
+            given.bits = in_ready(image, &given.left, frame, bits, parity_good, answer);
+            break;
+        }
+        given.left.state = CORRIDOR_ACTIVE;
+        /* fall through */
     case CORRIDOR_ACTIVE:
         given.bits = in_active(image, pages, &given.left, frame, bits, parity_good, answer);
         break;

@@ -33,7 +33,7 @@
  * event back until corridor_frame has returned. corridor_screen only reads its image, and may not be interrupted by a call that changes it.
  * docs/COST.md has how long calls take.
  *
- * Stack. The deepest that was measured on x86-64 is 336 bytes, the caller's frame among them (docs/COST.md).
+ * Stack. The deepest that was measured on x86-64 is 352 bytes, the caller's frame among them (docs/COST.md).
  *
  * When to save the image and the data memory. Three kinds of frames, one event and the writer can change the image, so a copy in flash is behind
  * only after one of these. No frame changes the data memory; a stop changes one of the two, never both:
@@ -42,6 +42,8 @@
  *                               A2h (WRITE), answered by ACK: 4 bits, 0Ah
  *                               1Bh (PWD_AUTH), whatever is answered: the count of failed passwords
  *                               30h or 3Ah (READ, FAST_READ), where the record's `answered` went from 0 to 1: the counter
+ *                             and on one in CORRIDOR_READY1 or CORRIDOR_READY2, READ of page 00h, where `answered` went from 0 to 1: some phones
+ *                             send it before the second SELECT, and it is answered as in CORRIDOR_ACTIVE
  *     corridor_bus_event      CORRIDOR_STOP, on a record in CORRIDOR_WRITING whose `held` isn't 0: the image where its `counter` is
  *                               CORRIDOR_WINDOW or above, else the data memory, and of either no byte outside the 64 of that address's page
  *     corridor_write_reading  where bytes of the image or of the data memory are lent to it, and it gives CORRIDOR_TAKEN

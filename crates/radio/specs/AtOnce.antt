@@ -16,7 +16,7 @@ use Rattle.radio.specs.Heard.{heardIn, isReadZero, heard}
 abbrev pub tagIn : State → Bool → Tag
 tagIn s answered = record { state = s; answered = answered }
 
--- of any frame at a tag of n pages, in one of the two states
+-- of any frame, at a tag of n pages
 module _ (n : ℕ) (img : List ℕ) (w : Wait) (answered : Bool) (f : List ℕ) (bits : ℕ) (parity : Bool) where
   pub record AtOnce (ready : Wait → State) : Type 0 where
     -- "A whole READ frame for address 00h with good parity and CRC is to be answered as ACTIVE would answer it, NAK and all.": what ACTIVE does, not
