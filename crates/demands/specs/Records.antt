@@ -20,7 +20,7 @@ use Rattle.two_wire.specs.declared.answer.Reply.the-variants.{Refused, Nothing,
 use Rattle.two_wire.specs.Region.{Lent, both}
 use Rattle.two_wire.specs.Event as wires
 use Rattle.two_wire.specs.Examples.{Whole}
-use Rattle.demands.specs.Table.{plain as board}
+use Rattle.demands.specs.Table.{plain as board, read0}
 
 -- ---- the tag record
 
@@ -67,7 +67,7 @@ pub record RecordCases : Type 0 where
   pub wakes : (reqa (board 45) 1024 (numbers 1 0 0 2) .reply ≡ plain 16 0x44) × (reqa (board 45) 1024 (numbers 1 0 0 2) .left ≡ numbers 2 0 0 0)
   pub sleeps : (reqa (board 45) 1024 (numbers 1 0 0 1) .reply ≡ silence) × (reqa (board 45) 1024 (numbers 1 0 0 1) .left ≡ numbers 1 0 0 1)
   -- .. READ 00h in READY1 enters ACTIVE unauthenticated, though the record's flag is set, which READY1 has no use for
-  pub entersOut : called (board 45) 1024 (numbers 2 1 1 0) (withCrc (0x30 ∷ 0x00 ∷ [])) 32 true .left ≡ numbers 4 1 0 1
+  pub entersOut : called (board 45) 1024 (numbers 2 1 1 0) (withCrc read0) 32 true .left ≡ numbers 4 1 0 1
   pub fieldLosses : (fieldLoss (numbers 4 1 1 2) ≡ numbers 0 0 0 0) × (fieldLoss (numbers 9 9 9 9) ≡ numbers 0 0 0 0) × (fieldLoss (numbers 4 1 1 1) ≡ numbers 0 0 0 0)
   -- "A refused call returns its number, no answer, the records it was given"
   pub refusedImage : (reqa [] 1024 (numbers 9 9 9 9) .refused ≡ 1) × (reqa [] 1024 (numbers 9 9 9 9) .left ≡ numbers 9 9 9 9)

@@ -1,5 +1,5 @@
 -- READY1 and READY2 hear a READ of page 00h as ACTIVE does, and every other frame as before. Assumes nothing.
-use mathlib.Core.Path.{_≡_, refl, sym, ap, _∙_}
+use mathlib.Core.Path.{_≡_, refl, _∙_}
 use mathlib.Core.List.{List}
 use mathlib.Core.Bool.{Bool, true, false, and-false}
 use Prim.Native.Nat.{ℕ, _+_, _/_}
@@ -7,26 +7,28 @@ use native.Mathlib.Omega.{arith}
 use lib.Dec.{eqb}
 use lib.ListN.{length, getD}
 use borrow.Author.Tests.{eqb-true}
-use Rattle.basics.proofs.Choice.{and-left, and-right, same-either}
+use Rattle.basics.proofs.Choice.{and-left, and-right}
 use Rattle.tag.specs.declared.state.Wait.{Wait}
 use Rattle.tag.specs.declared.state.State.{State}
 use Rattle.tag.specs.declared.state.State.the-variants.{Idle, Halt, Ready1, Ready2, Active}
+use Rattle.tag.specs.declared.state.Tag.{Tag}
 use Rattle.tag.specs.State.{moved, activated}
-use Rattle.tag.specs.Outcome.{Does, lost}
+use Rattle.tag.specs.Outcome.{lost}
 use Rattle.reads.specs.Read.{read}
 use Rattle.selection.specs.Selection.{inReady, inReady1, inReady2}
 use Rattle.active.specs.Frame.{commandOf, inActive}
 use Rattle.radio.specs.Heard.{heardIn, isReadZero, hearing, heard}
-use Rattle.radio.specs.AtOnce.{tagIn, AtOnce, Untouched, Early}
+use Rattle.radio.proofs.Hearing.{hearing-kept}
+use Rattle.radio.specs.AtOnce.{AtOnce, Untouched, Early}
 
-module _ (n : ℕ) (img : List ℕ) (w : Wait) (answered : Bool) (f : List ℕ) (bits : ℕ) (parity : Bool) where
+module _ (n : ℕ) (img : List ℕ) (t : Tag) (w : Wait) (f : List ℕ) (bits : ℕ) (parity : Bool) where
   -- where READ of page 00h leads to no other state
-  untouched : (s : State) → activated s ≡ s → Untouched n img w answered f bits parity s
-  unfolding heard hearing moved
-  untouched s k = rw (k, ← same-either (isReadZero f bits parity) s)
+  untouched : (s : State) → activated s ≡ s → Untouched n img t w f bits parity s
+  unfolding heard moved
+  untouched s k = rw (← hearing-kept f bits parity s s refl k)
 
   at-once : (ready : Wait → State) → activated (ready w) ≡ Active w false
-      → (getD f 0 0 ≡ 0x30 → heardIn (ready w) n img (tagIn (ready w) answered) f bits parity ≡ lost (tagIn (ready w) answered)) → AtOnce n img w answered f bits parity ready
+      → (getD f 0 0 ≡ 0x30 → heardIn (ready w) n img (moved t (ready w)) f bits parity ≡ lost (moved t (ready w))) → AtOnce n img t w f bits parity ready
   unfolding heard hearing moved
   at-once ready k other = record {
     asActive = λ y. rw (y, k);
@@ -34,7 +36,7 @@ module _ (n : ℕ) (img : List ℕ) (w : Wait) (answered : Bool) (f : List ℕ) 
     otherRead = λ y a. rw y (other a);
   }
 
-  as-read : (a : Bool) → length f ≡ (bits + 7) / 8 → isReadZero f bits parity ≡ true → inActive n img (tagIn (Active w a) answered) f bits parity ≡ read n img (tagIn (Active w a) answered) 0x00
+  as-read : (a : Bool) → length f ≡ (bits + 7) / 8 → isReadZero f bits parity ≡ true → inActive n img (moved t (Active w a)) f bits parity ≡ read n img (moved t (Active w a)) 0x00
   unfolding isReadZero inActive commandOf
   as-read a whole y =
       let e = eqb-true bits 32 (and-left (eqb bits 32) _ y) in
@@ -44,7 +46,7 @@ module _ (n : ℕ) (img : List ℕ) (w : Wait) (answered : Bool) (f : List ℕ) 
       let l : length f ≡ 4 = omega arith in
       rw (e, l, d, eqb-true (getD f 0 0) 0x30 (and-left (eqb (getD f 0 0) 0x30) _ b), eqb-true (getD f 1 0) 0x00 (and-left (eqb (getD f 1 0) 0x00) _ c))
 
-  pub early : Early n img w answered f bits parity
+  pub early : Early n img t w f bits parity
   unfolding inReady inReady1 inReady2
   early = record {
     ready1 = at-once Ready1 refl (λ a. rw (a, and-false parity));

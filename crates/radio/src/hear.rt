@@ -38,7 +38,7 @@ fn from_ready(state: State, frame: &[u8], bits: usize, parity: bool) -> State
     }
 }
 
-// The state in which a frame is heard. A READ leads from no other state to ACTIVE, so that no frame is looked at for them.
+// The state in which a frame is heard. A READ leads from no other state to ACTIVE, so that no frame is looked at there.
 fn hearing(state: State, frame: &[u8], bits: usize, parity: bool) -> State
     requires { ⌜ length (now frame) ≡ (bits + 7) / 8 ⌝ }
     ensures { λ r. ⌜ r ≡ hearing state (now (frame .entry)) bits parity ⌝ }
