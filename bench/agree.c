@@ -43,6 +43,11 @@ static void take_image(void) {
         uint8_t *settings = proved.image + 4 * (pages - 4);
         settings[3] = dice(2) ? 0xFF : dice(2) ? (uint8_t)(pages - dice(8)) : dice_byte();
         settings[4] = dice_byte();
+        if (dice(2)) { /* mostly a mirror that may be shown */
+            settings[0] = dice_byte();
+            settings[2] = dice(4) ? (uint8_t)(4 + dice((unsigned)pages - 8)) : dice_byte();
+            settings[4] |= dice(2) ? 0x10 : 0x00;
+        }
         settings[8] = settings[9] = settings[10] = settings[11] = (uint8_t)dice(2);
         proved.image[10] &= dice_byte() & dice_byte();
         proved.image[11] &= dice_byte() & dice_byte();

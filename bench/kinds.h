@@ -10,10 +10,10 @@ struct kind {
     unsigned times; /* in one round */
     struct frame frame;
     uint8_t state;
-    bool reading; /* whether a reading stands at page 04h */
+    void (*set_up)(struct tag *); /* what is changed on the fresh board, or 0 */
 };
 
-enum { KINDS = 17 };
+enum { KINDS = 19 };
 
 /* Fills the list. */
 void list_kinds(struct kind kinds[KINDS]);

@@ -1,5 +1,5 @@
 /*
- * A plain tag, for the benchmark. Sentences in quotation marks are those of document 01, which decides what the tag does.
+ * A plain tag, for the benchmark. Sentences in quotation marks are those of document 01, which decides what the tag does, and of 02, which amends it.
  *
  * `pages` is N everywhere: 45, 135 or 231. The last five pages have the same order in all three sizes, so they are counted from the end.
  * Functions of the radio side return the bit count of the answer that they put into `answer`; 0 is silence.
@@ -214,6 +214,47 @@ static void count_read(uint8_t *image, unsigned pages, corridor_tag_record *tag)
         ++counter[2];
 }
 
+/* Whether the counter is on, and not under password for this reader. */
+static bool counter_readable(const uint8_t *image, unsigned pages, const corridor_tag_record *tag)
+{
+    const unsigned access = ACCESS(image, pages);
+    return (access & COUNTER_ON) && (!(access & COUNTER_UNDER_PASSWORD) || tag->authenticated);
+}
+
+/* Character i of the mirror's text: UID, 78h, counter, in "upper-case hex, counter high byte first". */
+static uint8_t character(const uint8_t *image, unsigned pages, unsigned i)
+{
+    unsigned byte, digit;
+    if (i == 14)
+        return 0x78;
+    if (i < 14) {
+        byte = image[i < 6 ? i / 2 : i / 2 + 1]; /* image byte 3 isn't of the UID */
+    } else {
+        i -= 15;
+        byte = COUNTER(image, pages)[2 - i / 2];
+    }
+    digit = i % 2 == 0 ? byte >> 4 : byte & 0x0F;
+    return (uint8_t)(digit + (digit < 10 ? '0' : 'A' - 10));
+}
+
+/* Puts the mirror's characters over so many answered pages, which go round at `end`. "A page below 04h, or any character past the user pages,
+ * means no mirror at all. So does a mirror with the counter in it when the counter is off, or is under password and the tag isn't authenticated." */
+static void mirror(const uint8_t *image, unsigned pages, const corridor_tag_record *tag, unsigned page, unsigned end, unsigned count, uint8_t *answer)
+{
+    static const uint8_t lengths[4] = {0, 14, 6, 21}; /* "none, UID (14 characters), counter (6) or both (21, with 78h between)" */
+    const uint8_t *settings = image + 4 * SETTINGS_1(pages);
+    const unsigned mode = settings[0] >> 6, length = lengths[mode];
+    const unsigned start = 4u * settings[2] + (settings[0] >> 4 & 3), from = mode == 2 ? 15 : 0;
+    if (mode == 0 || settings[2] < 4 || start + length > 4 * LOCK_PAGE(pages) || (mode > 1 && !counter_readable(image, pages, tag)))
+        return;
+    for (; count > 0; count--) {
+        for (unsigned place = 4 * page; place < 4 * page + 4; place++, answer++)
+            if (place >= start && place < start + length)
+                *answer = character(image, pages, from + place - start);
+        page = page + 1 == end ? 0 : page + 1;
+    }
+}
+
 /* "NAK 0h unless a < B. Four pages (a+i) mod B, i from 0 to 3." */
 static size_t do_read(uint8_t *image, unsigned pages, corridor_tag_record *tag, unsigned page, uint8_t *answer)
 {
@@ -223,12 +264,13 @@ static size_t do_read(uint8_t *image, unsigned pages, corridor_tag_record *tag, 
     if (page + 4 <= end) {
         copy_pages(image, pages, page, 4, answer);
     } else {
-        for (unsigned i = 0; i < 4; i++) {
-            copy_pages(image, pages, page, 1, answer + 4 * i);
-            page = page + 1 == end ? 0 : page + 1;
+        for (unsigned i = 0, next = page; i < 4; i++) {
+            copy_pages(image, pages, next, 1, answer + 4 * i);
+            next = next + 1 == end ? 0 : next + 1;
         }
     }
     count_read(image, pages, tag);
+    mirror(image, pages, tag, page, end, 4, answer);
     return with_crc(answer, 16);
 }
 
@@ -239,6 +281,7 @@ static size_t do_fast_read(uint8_t *image, unsigned pages, corridor_tag_record *
         return nak(tag, answer, 0x0);
     copy_pages(image, pages, start, end - start + 1, answer);
     count_read(image, pages, tag);
+    mirror(image, pages, tag, start, pages, end - start + 1, answer);
     return with_crc(answer, 4 * (size_t)(end - start + 1));
 }
 
@@ -319,8 +362,7 @@ static size_t do_get_version(unsigned pages, uint8_t *answer)
 /* "NAK 0h if off, if under password and not authenticated, or if the second byte isn't 02h" */
 static size_t do_read_cnt(const uint8_t *image, unsigned pages, corridor_tag_record *tag, uint8_t second, uint8_t *answer)
 {
-    const unsigned access = ACCESS(image, pages);
-    if (second != 0x02 || !(access & COUNTER_ON) || ((access & COUNTER_UNDER_PASSWORD) && !tag->authenticated))
+    if (second != 0x02 || !counter_readable(image, pages, tag))
         return nak(tag, answer, 0x0);
     memcpy(answer, COUNTER(image, pages), 3);
     return with_crc(answer, 3);

@@ -11,5 +11,6 @@ stood, the line, the answer, how it stands then. The tag knows nothing of it.
                 what the lines of both programs have in common
     corridor    the book of `corridor`, of the groups that are named as its parts
     step        its steps
+    mirror      what the mirror's settings ask for, for the groups that begin with its name
     workshop    the book of `workshop`, with groups and steps of its own
 """

@@ -2,8 +2,8 @@
 
 from lines.reading import TABLE
 from rules import (active, bad_lines, both_sides, bus, counter, entered_by_read, lines, locks, memory,
-                   memory_lines, password, reads, reads_at_once, ready_commands, records, refusals, returns,
-                   selection, waiting, writes)
+                   memory_lines, mirror_places, mirror_reads, mirror_stored, mirror_text, password, reads,
+                   reads_at_once, ready_commands, records, refusals, returns, selection, waiting, writes)
 from rules.book import Group, RuleBook
 from rules.step import Watched
 
@@ -26,6 +26,10 @@ GROUPS = [
     Group("Q-2: ACTIVE, entered by READ 00h", entered_by_read.RULES, entered_by_read.met),
     Group("READ and FAST_READ", reads.RULES, reads.met),
     Group("The counter, GET_VERSION", counter.RULES, counter.met),
+    Group("Q-3: where the mirror is", mirror_places.RULES, mirror_places.met),
+    Group("Q-3: reads of the mirror", mirror_reads.RULES, mirror_reads.met),
+    Group("Q-3: the mirror's characters", mirror_text.RULES, mirror_text.met),
+    Group("Q-3: the bytes under the mirror, its settings", mirror_stored.RULES, mirror_stored.met),
     Group("PWD_AUTH", password.RULES, password.met),
     Group("WRITE", writes.RULES, writes.met),
     Group("Static locks", locks.STATIC_RULES, locks.met),

@@ -3,7 +3,8 @@
 A scene takes a Script, which knows the tag, and adds lines to it. The scenes of
 a part have the name of its rules: refusals, waiting, selection, active, reads,
 writes, locks, password, bus, memory, both_sides, lines, memory_lines, records,
-returns, reads_at_once, ready_commands, entered_by_read. Beside them:
+returns, reads_at_once, ready_commands, entered_by_read, mirror_places, mirror_reads,
+mirror_text, mirror_stored. Beside them:
 
     dice        random numbers
     text        the lines of a script
@@ -14,7 +15,8 @@ returns, reads_at_once, ready_commands, entered_by_read. Beside them:
     plausible   images and commands as they might be met
     chunks      input that is read by chunks
     walks       everything mixed
-    examples    the examples of document 01, with their answers
+    mirror      what the scenes of the mirror have in common
+    examples    the examples of document 01 and others, with their answers
     stored      the script that is stored, and fresh ones
     workshop    what the scripts of `workshop` play
 """

@@ -1,12 +1,12 @@
 """The examples of document 01, and such as document 02 has in words, as lines, with
-the answers they give.
+the answers they give; among them source document 004's three of the mirror.
 
 Every example is preceded by a comment line that names it. The answers written
 out here come from the documents' words; they are held against the second tag
 whenever the examples are made, and a difference stops the making.
 """
 
-from scenes.images import access_byte, build_image
+from scenes.images import access_byte, build_image, mirror_bytes
 from lines.player import Player
 from tag.bits import bits_of, bytes_of, crc_a, with_crc
 
@@ -68,6 +68,11 @@ class Examples:
         self.image(image)
         self.to_active()
 
+    def counted(self, counter):
+        """A READ was answered, and the counter of N=45 stands so; its failed count is 0."""
+        self.line("tag", "tag active idle answered")
+        self.line("show 2D", f"page {counter}00")
+
     def address(self, high, low, low_answer="ack"):
         self.line("start", "done")
         self.line("send A0", "ack")
@@ -88,6 +93,18 @@ def data_with_crc(data):
 def changed(image, places):
     """The image with some bytes changed."""
     return [places.get(place, byte) for place, byte in enumerate(image)]
+
+
+def ascii_hex(text):
+    """The bytes of these characters, written in hex."""
+    return as_hex(text.encode("ascii"))
+
+
+def mirrored_image(mirror, pages, access=access_byte(counter_on=1)):
+    """Source document 004's images for its examples of the mirror: user pages are
+    zeros but for some, and the counter is one below 00-10-2F."""
+    return build_image(45, mirror=mirror, access=access, counter=0x00102E,
+                       user=lambda page: bytes.fromhex(pages.get(page, "00000000")))
 
 
 def check_bytes(e):
@@ -386,12 +403,71 @@ def other_read_stays_an_error(e):
     e.line("show 2D", "page 00000000")
 
 
+def mirror_of_uid(e):
+    e.named("Q-3: UID 1D A2 30 11 09 67 EC from byte 1 of page 0Ch reads 1DA230110967EC")
+    e.active_on(mirrored_image(mirror_bytes("UID", 4 * 0x0C + 1), {0x0C: "3D303030", 0x0F: "303030FE"}))
+    e.frame("300C", data_with_crc("3D" + ascii_hex("1DA230110967EC") + "FE"))
+    e.counted("2F1000")
+    e.line("show 0C", "page 3D303030")
+
+
+def mirror_of_counter(e):
+    e.named("Q-3: the counter, 00-10-2F after this READ has counted, from byte 1 of page 0Ch reads 00102F")
+    e.active_on(mirrored_image(mirror_bytes("counter", 4 * 0x0C + 1), {0x0C: "3D303030", 0x0D: "303030FE"}))
+    for _ in range(2):
+        e.frame("300C", data_with_crc("3D" + ascii_hex("00102F") + "FE 00000000 00000000"))
+        e.counted("2F1000")
+    e.frame("3902", data_with_crc("2F1000"))
+
+
+def mirror_of_both(e):
+    e.named("Q-3: both from byte 1 of page 0Ch read 1DA230110967ECx00102F")
+    e.active_on(mirrored_image(mirror_bytes("both", 4 * 0x0C + 1), {0x0C: "3D303030", 0x11: "3030FE00"}))
+    e.frame("3A0C11", data_with_crc("3D" + ascii_hex("1DA230110967ECx00102F") + "FE00"))
+    e.counted("2F1000")
+
+
+def mirror_and_memory(e):
+    e.named("Q-3: memory and bus reads don't change; a WRITE there is seen when the mirror is off")
+    e.active_on(mirrored_image(mirror_bytes("UID", 4 * 0x0C + 1), {0x0C: "3D303030"}))
+    e.frame("A20C 01020304", ACK)
+    e.frame("3A0C0C", data_with_crc("01" + ascii_hex("1DA")))
+    e.line("show 0C", "page 01020304")
+    e.address("40", "31")
+    e.line("start", "done")
+    e.line("send A1", "ack")
+    e.line("read nak", "byte 02")
+    e.line("bus", "bus deaf 4032")
+    e.frame("A229 04000CFF", ACK)
+    e.frame("3A0C0C", data_with_crc("01020304"))
+
+
+def mirror_that_does_not_fit(e):
+    e.named("Q-3: a page below 04h, or any character past the user pages, means no mirror at all")
+    for start, page, due in [(4 * 0x24 + 2, "24", "0000" + ascii_hex("1D")), (4 * 0x24 + 3, "24", "00000000"),
+                             (4 * 0x04, "04", ascii_hex("1DA2")), (4 * 0x03 + 3, "04", "00000000")]:
+        e.active_on(mirrored_image(mirror_bytes("UID", start), {}))
+        e.frame(f"3A {page} {page}", data_with_crc(due))
+        e.counted("2F1000")
+
+
+def mirror_without_counter(e):
+    e.named("Q-3: with the counter in it none when it is off, or under password and the tag not authenticated")
+    for access, told in [(access_byte(), False), (access_byte(counter_on=1, counter_under_password=1), True)]:
+        e.active_on(mirrored_image(mirror_bytes("both", 4 * 0x0C), {}, access))
+        e.frame("3A0C0C", data_with_crc("00000000"))
+        e.counted("2F1000" if access else "2E1000")
+        e.frame("1B FFFFFFFF", data_with_crc("0000"))
+        e.frame("3A0C0C", data_with_crc(ascii_hex("1DA2") if told else "00000000"))
+
+
 EXAMPLES = [
     check_bytes, read_rolls_at_size, read_rolls_at_auth0, read_one_page, fast_read_one_page,
     block_bit_holds, page_3_gains, lock_bit_0, counter_at_its_end, password_limit,
     anticollision_of_four_bits, bus_rolls_over, window_end, start_drops, three_frames,
     crc_examples, memory_rolls_over, memory_keeps_nothing_back, memory_read_rolls, either_region,
-    refused_memory, read_at_once, read_at_once_nak, other_read_stays_an_error,
+    refused_memory, read_at_once, read_at_once_nak, other_read_stays_an_error, mirror_of_uid,
+    mirror_of_counter, mirror_of_both, mirror_and_memory, mirror_that_does_not_fit, mirror_without_counter,
 ]
 
 

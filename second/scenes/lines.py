@@ -154,7 +154,8 @@ def new_images(s):
 
 
 def spoiled_lines(s, amount):
-    """Good lines with one character changed, left out, or put in."""
+    """Good lines with one character changed, left out, or put in; what each leaves
+    behind is asked."""
     dice = s.dice
     for _ in range(amount):
         line = dice.one_of([b"frame 7 52", b"read ack", b"read nak", b"send A0", b"event 2 A0", b"stop",
@@ -164,6 +165,7 @@ def spoiled_lines(s, amount):
         put = bytes([dice.one_of([0x20, 0x09, 0x30, 0x41, 0x61, 0x67, 0x0D, dice.byte()])])
         put = b"" if put == b"\n" else put
         s.say(line[:place] + put + line[place + dice.below(2):])
+        s.ask()
         if len(s.data_memory) != 16384:
             s.usual_memory()
     s.usual_buffer()

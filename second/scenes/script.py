@@ -5,7 +5,8 @@ locks, and can steer: to ACTIVE, into HALT, into any phase of the two wires.
 """
 
 from lines.player import Player
-from scenes.images import access_byte, build_image
+from scenes.images import access_byte, build_image, mirror_bytes
+from scenes.plausible import plausible_mirror
 from scenes.script_bus import BusLines
 from scenes.script_memory import MemoryLines
 from scenes.script_radio import RadioLines
@@ -88,7 +89,7 @@ class Script(Text, RadioLines, BusLines, MemoryLines):
 
         Unless said, the counter is on and the last page is under password, so
         that a READ over the border shows whether the tag is authenticated, and
-        the tail whether it counted.
+        the tail whether it counted; one in four has a mirror, as it may come.
         """
         dice = self.dice
         wishes.setdefault("pwd", dice.four())
@@ -97,6 +98,8 @@ class Script(Text, RadioLines, BusLines, MemoryLines):
         wishes.setdefault("auth0", size - 1)
         wishes.setdefault("access", access_byte(prot=1, counter_on=1))
         wishes.setdefault("counter", dice.below(2 ** 20))
-        self.raw_image(build_image(size, uid=dice.bytes(7), user=lambda page: dice.four(), **wishes))
+        wishes.setdefault("uid", dice.bytes(7))
+        wishes.setdefault("mirror", plausible_mirror(self, size) if dice.one_in(4) else mirror_bytes())
+        self.raw_image(build_image(size, user=lambda page: dice.four(), **wishes))
         self.usual_buffer()
         self.usual_memory()

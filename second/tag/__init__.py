@@ -2,7 +2,7 @@
 
 Document 01 ("Build specification and rules: the corridor tag") decides what
 the tag does, and document 02 ("Requests from the schools' year") amends it:
-so far Q-1 and Q-2. Sentences in quotation marks are taken from them. This second
+so far Q-1, Q-2 and Q-3. Sentences in quotation marks are taken from them. This second
 opinion leans on nothing but these documents: bits are lists of 0 and 1 with the
 least significant first, pages are four bytes each, and locks are sets of page
 numbers. What is kept from call to call is plain values, replaced and never
@@ -20,6 +20,7 @@ changed in place.
     selection   frames in READY1 and READY2
     active      frames in ACTIVE, up to the command
     reads       READ, FAST_READ, READ_CNT
+    mirror      the characters that READ and FAST_READ show
     writes      WRITE
     password    PWD_AUTH
     regions     what the two wires reach: the data memory and the window

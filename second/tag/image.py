@@ -50,19 +50,39 @@ class Image:
     def authlim(self):
         return self.access()[0] + 2 * self.access()[1] + 4 * self.access()[2]
 
+    # The mirror's settings. Document 02, Q-3: "first settings page, byte 0, bits
+    # 7-6 choose none, UID [...], counter [...] or both [...]; bits 5-4 give the byte
+    # in the page, and byte 2 the page."
+
+    def mirror_bits(self):
+        return BITS_OF_BYTE[self.pages[self.layout.settings[0]][0]]
+
+    def mirrors_uid(self):
+        return self.mirror_bits()[6] == 1
+
+    def mirrors_counter(self):
+        return self.mirror_bits()[7] == 1
+
+    def mirror_start(self):
+        """The number of the image byte where the mirror begins."""
+        page = self.pages[self.layout.settings[0]][2]
+        return 4 * page + 2 * self.mirror_bits()[5] + self.mirror_bits()[4]
+
     # The UID and its check bytes.
 
+    def uid(self):
+        """"UID bytes 0-2 are image bytes 0-2, UID bytes 3-6 image bytes 4-7." """
+        return self.pages[0][:3] + self.pages[1]
+
     def first_five(self):
-        """"the five bytes 88h, UID 0-2, BCC0": "UID bytes 0-2 are image bytes
-        0-2", "BCC0 is the exclusive-or of 88h and UID 0-2". "Selection uses
-        computed BCCs; READ shows stored bytes." """
-        four = [0x88, *self.pages[0][:3]]
+        """"the five bytes 88h, UID 0-2, BCC0": "BCC0 is the exclusive-or of 88h and
+        UID 0-2". "Selection uses computed BCCs; READ shows stored bytes." """
+        four = [0x88, *self.uid()[:3]]
         return four + [exclusive_or(four)]
 
     def second_five(self):
-        """"UID 3-6, BCC1": "UID bytes 3-6 image bytes 4-7", BCC1 the
-        exclusive-or "of UID 3-6"."""
-        four = list(self.pages[1])
+        """"UID 3-6, BCC1": BCC1 the exclusive-or "of UID 3-6"."""
+        four = list(self.uid()[3:])
         return four + [exclusive_or(four)]
 
     # Pages as they are read and written.

@@ -42,3 +42,10 @@ class Radio:
         """"Every NAK goes to the wait state." """
         self.leave_for(self.wait_state())
         return NAK[number]
+
+    def may_tell_counter(self):
+        """READ_CNT is refused, and a mirror with the counter in it isn't shown,
+        "when the counter is off, or is under password and the tag isn't
+        authenticated". """
+        under_password = self.image.counter_under_password() and not self.authenticated
+        return self.image.counter_on() and not under_password

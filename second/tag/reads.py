@@ -1,6 +1,7 @@
 """READ, FAST_READ and READ_CNT."""
 
 from tag.bits import with_crc
+from tag.mirror import mirror, with_mirror
 
 
 def border(radio):
@@ -31,20 +32,20 @@ def answer_pages(radio, pages):
 
     "The first READ or FAST_READ answered with data since field loss adds 1 to
     the counter if it is on [...]. Later ones don't count, even if the first
-    found it off."
+    found it off." Document 02, Q-3: the mirror's counter is that "after this READ has
+    counted".
     """
+    image = radio.image
     if not radio.read_answered:
-        radio.image.count_one_read()
+        image.count_one_read()
     radio.read_answered = True
-    return with_crc([byte for page in pages for byte in radio.image.shown(page)])
+    characters = mirror(radio)
+    return with_crc([byte for page in pages for byte in with_mirror(page, image.shown(page), characters)])
 
 
 def read_cnt(radio, second):
     """"three counter bytes, low first; NAK 0h if off, if under password and not
     authenticated, or if the second byte isn't 02h." """
-    image = radio.image
-    if second != 0x02 or not image.counter_on():
+    if second != 0x02 or not radio.may_tell_counter():
         return radio.nak(0)
-    if image.counter_under_password() and not radio.authenticated:
-        return radio.nak(0)
-    return with_crc(image.tail[:3])
+    return with_crc(radio.image.tail[:3])

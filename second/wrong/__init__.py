@@ -18,6 +18,9 @@ get another answer from each of them than from the right one.
                 mistakes about the data memory and its lines
     by_hand_ready
                 mistakes about READ 00h in READY1 and READY2
+    by_hand_mirror, by_hand_mirror_shown
+                mistakes about the ASCII mirror: its characters and its place; who
+                sees it, and in which reads
     by_hand_lines
                 mistakes in reading lines, in both programs
     readers     wrong by reading: input that comes in chunks, read wrongly

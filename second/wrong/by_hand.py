@@ -8,6 +8,8 @@ the text that takes its place. Those of `workshop` are in the package of that na
 from lines.reading import LONGEST_LINE
 from wrong.by_hand_lines import of_lines
 from wrong.by_hand_memory import OF_MEMORY, OF_MEMORY_LINES
+from wrong.by_hand_mirror import OF_MIRROR
+from wrong.by_hand_mirror_shown import OF_MIRROR_SHOWN
 from wrong.by_hand_ready import OF_READY
 
 NEW_BUS = "self.bus = Bus(self.image, self.data_memory)"
@@ -25,10 +27,10 @@ BY_HAND = {
         "len(bits) == 72 and bits[:16] == bits_of([code, 0x70]) and bits == with_crc("
         "[sum(bits[8 * at + place] << place for place in range(8)) for at in range(7)])"),
     "selection uses the stored BCC0": (
-        "tag.image", "four = [0x88, *self.pages[0][:3]]\n        return four + [exclusive_or(four)]",
+        "tag.image", "four = [0x88, *self.uid()[:3]]\n        return four + [exclusive_or(four)]",
         "return [0x88, *self.pages[0]]"),
     "selection uses the stored BCC1": (
-        "tag.image", "four = list(self.pages[1])\n        return four + [exclusive_or(four)]",
+        "tag.image", "four = list(self.uid()[3:])\n        return four + [exclusive_or(four)]",
         "return [*self.pages[1], self.pages[2][0]]"),
     **OF_READY,
     "parity is judged in IDLE": (
@@ -47,6 +49,8 @@ BY_HAND = {
         "if not first < border(radio):\n        radio.read_answered = True\n"),
     "a first READ that finds the counter off leaves the chance": (
         "tag.reads", "radio.read_answered = True", "radio.read_answered |= radio.image.counter_on()"),
+    **OF_MIRROR,
+    **OF_MIRROR_SHOWN,
     "the new block bits are tested": (
         "tag.locks", "if old[block]\n", "if old[block] or new[block]\n"),
     "WRITE is under password only with PROT": (

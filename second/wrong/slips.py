@@ -14,6 +14,9 @@ EXCHANGED = {ast.Add: ast.Sub, ast.Sub: ast.Add, ast.Mult: ast.Add, ast.FloorDiv
              ast.RShift: ast.LShift, ast.LShift: ast.RShift}
 MOVED_BY_ONE = {ast.Lt: ast.LtE, ast.LtE: ast.Lt, ast.Gt: ast.GtE, ast.GtE: ast.Gt}
 
+# Of these kinds of nodes Python has one for all trees.
+SHARED = (ast.expr_context, ast.boolop, ast.operator, ast.unaryop, ast.cmpop)
+
 
 class Slip:
     """One slip: a tree with one node exchanged, where it is, and its name."""
@@ -66,9 +69,11 @@ def slips_in(module, tree):
 
 
 def number_nodes(tree):
-    """Gives each node a number, so that a copy of the tree can be told where."""
+    """Gives each node a number, so that a copy of the tree can be told where. Nodes that
+    are shared have none: it would be that of another tree."""
     for number, node in enumerate(ast.walk(tree)):
-        node.number = number
+        if not isinstance(node, SHARED):
+            node.number = number
     return tree
 
 

@@ -1,7 +1,8 @@
-// What every crate counts with: a byte as a wider number, and two bytes as one number.
+// What every crate counts with: a byte as a wider number, two bytes as one number, and a byte's hex digits.
 ghost use mathlib.Core.Path.{_≡_};
-ghost use Prim.Native.Nat.{_<_};
+ghost use Prim.Native.Nat.{_/_, _%_, _<_};
 ghost use Rattle.basics.specs.Bytes.{lowFirst, lowByte, highByte};
+ghost use Rattle.basics.specs.Hex.{hexChar};
 
 pub fn to_u16(b: u8) -> u16
     ensures { λ r. ⌜ (r ≡ b) × (r < 256) ⌝ }
@@ -44,4 +45,24 @@ pub fn high_byte(w: u16) -> u8
     ensures { λ r. ⌜ r ≡ highByte w ⌝ }
 {
     (w / 256) as u8
+}
+
+// The capital hex digit of a number below 16.
+fn hex_char(n: u8) -> u8
+    requires { ⌜ n < 16 ⌝ }
+    ensures { λ r. ⌜ r ≡ hexChar n ⌝ }
+{
+    if n < 10 { n + 48 } else { n + 55 }
+}
+
+pub fn high_char(b: u8) -> u8
+    ensures { λ r. ⌜ r ≡ hexChar (b / 16) ⌝ }
+{
+    hex_char(b / 16)
+}
+
+pub fn low_char(b: u8) -> u8
+    ensures { λ r. ⌜ r ≡ hexChar (b % 16) ⌝ }
+{
+    hex_char(b % 16)
 }

@@ -33,6 +33,16 @@ proved-table = record {
   atOnceGuarded = (refl, refl);
   atOnceOther = (refl, refl);
   atOnceCounts = (refl, refl);
+  mirrorUid = refl;
+  mirrorFast = refl;
+  mirrorBoth = refl;
+  mirrorCounter = refl;
+  mirrorLast = refl;
+  mirrorFar = refl;
+  mirrorLow = refl;
+  mirrorOff = refl;
+  mirrorGuarded = refl;
+  mirrorGranted = refl;
   together = refl;
   lockedPage = (refl, refl);
 }

@@ -101,6 +101,18 @@ lockedFour = sets (plain 45) 10 (0x10 ∷ [])
 abbrev pub writeFour : List ℕ
 writeFour = 0xA2 ∷ 0x04 ∷ 0x01 ∷ 0x02 ∷ 0x03 ∷ 0x04 ∷ []
 
+-- a board of 45 pages with this UID whose first settings page begins with these three bytes: the mirror's mode and byte, one that does nothing,
+-- and its page
+abbrev pub mirroring : ℕ → ℕ → ℕ → List ℕ → List ℕ
+mirroring conf page access tail =
+    sets (sets (board 45 0xFF access tail) 0 (0x1D ∷ 0xA2 ∷ 0x30 ∷ 0x00 ∷ 0x11 ∷ 0x09 ∷ 0x67 ∷ 0xEC ∷ [])) (4 * 0x29) (conf ∷ 0x00 ∷ page ∷ [])
+
+abbrev pub counter102E : List ℕ
+counter102E = 0x2E ∷ 0x10 ∷ 0x00 ∷ 0x00 ∷ []
+
+abbrev pub inActiveGranted : Tag
+inActiveGranted = record { state = Active ToIdle true; answered = true }
+
 pub record ProvedTable : Type 0 where
   -- "UID 1D A2 30 11 09 67 EC has BCC0 07h, BCC1 93h."
   pub uid : (bcc0 withUid ≡ 0x07) × (bcc1 withUid ≡ 0x93)
@@ -148,6 +160,27 @@ pub record ProvedTable : Type 0 where
   -- in READY2 it counts, and HALT stays the wait state of a tag that was woken from there
   pub atOnceCounts : (counter 45 (apply counting (askedIn inReady2 counting read0 .effect)) ≡ 0xFFFFFF)
       × (askedIn inReady2 counting read0 .left ≡ recordOf (record { state = Active ToHalt false; answered = true }))
+  -- Q-3's: "UID 1D A2 30 11 09 67 EC from byte 1 of page 0Ch reads 1DA230110967EC.", by READ and by FAST_READ
+  pub mirrorUid : asked (mirroring 0x50 0x0C 0x00 zeros) (0x30 ∷ 0x0C ∷ []) .reply
+      ≡ bytes (0x0C ∷ 0x31 ∷ 0x44 ∷ 0x41 ∷ 0x32 ∷ 0x33 ∷ 0x30 ∷ 0x31 ∷ 0x31 ∷ 0x30 ∷ 0x39 ∷ 0x36 ∷ 0x37 ∷ 0x45 ∷ 0x43 ∷ 0x0F ∷ [])
+  pub mirrorFast : asked (mirroring 0x50 0x0C 0x00 zeros) (0x3A ∷ 0x0E ∷ 0x10 ∷ []) .reply
+      ≡ bytes (0x31 ∷ 0x30 ∷ 0x39 ∷ 0x36 ∷ 0x37 ∷ 0x45 ∷ 0x43 ∷ 0x0F ∷ 0x10 ∷ 0x10 ∷ 0x10 ∷ 0x10 ∷ [])
+  -- both at once, over the ends of pages; the counter is at 00102Eh, and its own READ shows 00102F: 7ECx 0010 2F
+  pub mirrorBoth : asked (mirroring 0xD0 0x0C 0x10 counter102E) (0x30 ∷ 0x0F ∷ []) .reply
+      ≡ bytes (0x37 ∷ 0x45 ∷ 0x43 ∷ 0x78 ∷ 0x30 ∷ 0x30 ∷ 0x31 ∷ 0x30 ∷ 0x32 ∷ 0x46 ∷ 0x11 ∷ 0x11 ∷ 0x12 ∷ 0x12 ∷ 0x12 ∷ 0x12 ∷ [])
+  -- the counter alone, one byte further; of a counter at FFFFFFh it shows FFFFFF
+  pub mirrorCounter : asked (mirroring 0xA0 0x04 0x10 (0xFF ∷ 0xFF ∷ 0xFF ∷ 0x00 ∷ [])) (0x30 ∷ 0x04 ∷ []) .reply
+      ≡ bytes (0x04 ∷ 0x04 ∷ 0x46 ∷ 0x46 ∷ 0x46 ∷ 0x46 ∷ 0x46 ∷ 0x46 ∷ 0x06 ∷ 0x06 ∷ 0x06 ∷ 0x06 ∷ 0x07 ∷ 0x07 ∷ 0x07 ∷ 0x07 ∷ [])
+  -- the last place for the UID, byte 2 of page 24h, and one character too far; "A page below 04h": 03h
+  pub mirrorLast : asked (mirroring 0x60 0x24 0x00 zeros) (0x30 ∷ 0x24 ∷ []) .reply
+      ≡ bytes (0x24 ∷ 0x24 ∷ 0x31 ∷ 0x44 ∷ 0x41 ∷ 0x32 ∷ 0x33 ∷ 0x30 ∷ 0x31 ∷ 0x31 ∷ 0x30 ∷ 0x39 ∷ 0x36 ∷ 0x37 ∷ 0x45 ∷ 0x43 ∷ [])
+  pub mirrorFar : asked (mirroring 0x70 0x24 0x00 zeros) (0x30 ∷ 0x24 ∷ []) .reply ≡ bytes (pagesOf 0x24 0x25 0x26 0x27)
+  pub mirrorLow : asked (mirroring 0x70 0x03 0x00 zeros) (0x30 ∷ 0x03 ∷ []) .reply ≡ bytes (pagesOf 3 4 5 6)
+  -- both, with the counter off, under password, and under password for a tag that is authenticated: not even the UID, but for the last
+  pub mirrorOff : asked (mirroring 0xC0 0x0C 0x00 counter102E) (0x30 ∷ 0x0C ∷ []) .reply ≡ bytes (pagesOf 0x0C 0x0D 0x0E 0x0F)
+  pub mirrorGuarded : asked (mirroring 0xC0 0x0C 0x18 counter102E) (0x30 ∷ 0x0C ∷ []) .reply ≡ bytes (pagesOf 0x0C 0x0D 0x0E 0x0F)
+  pub mirrorGranted : askedIn inActiveGranted (mirroring 0xC0 0x0C 0x18 counter102E) (0x3A ∷ 0x0F ∷ 0x11 ∷ []) .reply
+      ≡ bytes (0x45 ∷ 0x43 ∷ 0x78 ∷ 0x30 ∷ 0x30 ∷ 0x31 ∷ 0x30 ∷ 0x32 ∷ 0x45 ∷ 0x11 ∷ 0x11 ∷ 0x11 ∷ [])
   -- our own: a block bit and a lock under it, set at once: the old block bits decide
   pub together : getD (left (plain 45) (0xA2 ∷ 0x02 ∷ 0x00 ∷ 0x00 ∷ 0x09 ∷ 0x00 ∷ [])) 10 0 ≡ 0x09
   -- our own: a locked page that a WRITE doesn't change

@@ -4,3 +4,4 @@ pub mod Uid
 pub mod Shown
 pub mod Write
 pub mod Tail
+pub mod Mirror

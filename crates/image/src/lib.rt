@@ -1,5 +1,6 @@
 // What the bytes of an image are.
 pub mod layout;
+pub mod mirror;
 pub mod settings;
 pub mod shown;
 pub mod tail;

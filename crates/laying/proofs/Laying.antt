@@ -9,14 +9,9 @@ use lib.ListN.{length, take, drop, set, getD, length-set, length-take, length-ap
 use borrow.Rule.Slice.PartMut.{putMid}
 use lib.Seq.{take-suc, take-suc-set, take-length, take-at, length-take-le}
 use borrow.Author.Tests.{lt-ltb, le-ltb}
+use Rattle.basics.specs.Hex.{hexChar, hexOf}
 use Rattle.io.specs.Digits.{digits, glyph, Fewest}
-use Rattle.laying.specs.Parts.{decimalIn, decimal, hexChar, hexOf, Part, word, flagged, number, four, hex, tail, partText, lineText, Laid, Line}
-
-pub char-low : (n : ℕ) → n < 10 → n + 48 ≡ hexChar n
-char-low n h = simp (lt-ltb n 10 h)
-
-pub char-high : (n : ℕ) → 10 ≤ n → n + 55 ≡ hexChar n
-char-high n h = simp (le-ltb n 10 h)
+use Rattle.laying.specs.Parts.{decimalIn, decimal, Part, word, flagged, number, four, hex, tail, partText, lineText, Laid, Line}
 
 -- ---- a line is its parts, one behind the other: whatever the parts are
 

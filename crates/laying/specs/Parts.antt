@@ -5,6 +5,7 @@ use mathlib.Core.Bool.{Bool, cond}
 use mathlib.Core.List.{List, [], _∷_, _++_}
 use lib.Dec.{ltb}
 use lib.ListN.{take}
+use Rattle.basics.specs.Hex.{hexOf}
 use Rattle.laying.specs.declared.Letters.{Letters}
 
 -- "Numbers are decimal": as few digits as it has, of at most `most`
@@ -14,15 +15,6 @@ decimalIn (suc most) n = cond (ltb n 10) ((48 + n) ∷ []) (decimalIn most (n / 
 
 unfoldable pub decimal : ℕ → List ℕ
 decimal n = decimalIn 20 n
-
--- "capitals out": the hex digit of a number below 16
-abbrev pub hexChar : ℕ → ℕ
-hexChar n = cond (ltb n 10) (n + 48) (n + 55)
-
--- bytes as pairs of hex digits
-abbrev pub hexOf : List ℕ → List ℕ
-hexOf [] = []
-hexOf (b ∷ r) = hexChar (b / 16) ∷ hexChar (b % 16) ∷ hexOf r
 
 -- "`image` alone where it is empty": the space, which is 32, goes with the bytes
 abbrev pub tailOf : List ℕ → List ℕ

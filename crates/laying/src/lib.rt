@@ -1,11 +1,13 @@
 // Laying the line that answers a line into a buffer, part by part: words, numbers, bytes. All that put something at a place answer the place
 // behind it.
+use basics::high_char;
+use basics::low_char;
 use bytes::copy;
 ghost use mathlib.Core.Path.{_≡_};
 ghost use mathlib.Core.List.{_∷_, []};
 ghost use Prim.Native.Nat.{_+_, _*_, _/_, _%_, _≤_, _<_};
 ghost use lib.ListN.{length, take};
-ghost use Rattle.laying.specs.Parts.{hexChar, word as Parts·word, flagged as Parts·flagged, number as Parts·number, four as Parts·four, hex as Parts·hex, tail as Parts·tail, lettersOf, Laid, Line};
+ghost use Rattle.laying.specs.Parts.{word as Parts·word, flagged as Parts·flagged, number as Parts·number, four as Parts·four, hex as Parts·hex, tail as Parts·tail, lettersOf, Laid, Line};
 
 // A word of at most seven letters: how many it has, and the letters.
 pub struct Letters(pub usize, pub [u8; 7]);
@@ -60,26 +62,6 @@ pub fn put_flagged(out: &mut [u8], at: usize, text: &[u8], flag: bool) -> usize
         return put(out, at, text);
     }
     at
-}
-
-// The capital hex digit of a number below 16.
-fn hex_char(n: u8) -> u8
-    requires { ⌜ n < 16 ⌝ }
-    ensures { λ r. ⌜ r ≡ hexChar n ⌝ }
-{
-    if n < 10 { n + 48 } else { n + 55 }
-}
-
-fn high_char(b: u8) -> u8
-    ensures { λ r. ⌜ r ≡ hexChar (b / 16) ⌝ }
-{
-    hex_char(b / 16)
-}
-
-fn low_char(b: u8) -> u8
-    ensures { λ r. ⌜ r ≡ hexChar (b % 16) ⌝ }
-{
-    hex_char(b % 16)
 }
 
 // The first `count` bytes of `bytes`, as pairs of hex digits.

@@ -1,25 +1,30 @@
 -- Pages laid into the answer, and what each way through READ and FAST_READ shows. Assumes nothing.
-use mathlib.Core.Path.{_≡_, sym, ap, _∙_}
-use mathlib.Core.List.{List, [], _∷_}
-use mathlib.Core.Bool.{Bool, true, false}
-use Prim.Native.Nat.{ℕ, suc, _+_, _-_, _*_, _/_, _%_, _≤_, _<_}
+use mathlib.Core.Path.{_≡_, refl, sym, ap, ap₂, _∙_}
+use mathlib.Core.List.{List, [], _∷_, _++_}
+use mathlib.Core.Bool.{Bool, true, false, cond, _&&_}
+use Prim.Native.Nat.{ℕ, zero, suc, _+_, _-_, _*_, _/_, _%_, _≤_, _<_}
 use native.Mathlib.Nat.{add-zero, mod-add-mod, mod-eq-of-lt, mod-self}
 use native.Mathlib.Omega.{arith}
-use lib.ListN.{length, set}
-use lib.Seq.{sets, length-sets}
-use borrow.Author.Tests.{lt-ltb, le-ltb, le-leb, lt-leb}
+use lib.Dec.{eqb, leb, ltb}
+use lib.ListN.{length, set, drop}
+use lib.Seq.{sets, length-sets, drop-at}
+use borrow.Author.Tests.{lt-ltb, le-ltb, le-leb, lt-leb, leb-true, ltb-true, eqb-true, ne-eqb}
 use Rattle.image.specs.declared.layout.Four.{Four}
 use Rattle.image.specs.Layout.{Fits, pageAt, bytesOf, store}
 use Rattle.image.specs.Settings.{auth0, prot, counterOn}
-use Rattle.image.specs.Shown.{shownPage}
+use Rattle.image.specs.Mirror.{isChosen, text, mirrorFor, replaced, replacedPage, through}
+use Rattle.image.specs.declared.mirror.Mirror.{Mirror}
+use Rattle.image.specs.Shown.{shown, shownPage}
+use Rattle.basics.proofs.Choice.{by, and-left, and-right, flag}
+use Rattle.image.proofs.Mirroring.{not-chosen}
 use Rattle.image.proofs.Stored.{fits-store}
 use Rattle.image.specs.Tail.{counted}
 use Rattle.tag.specs.declared.state.Tag.{Tag}
 use Rattle.tag.specs.declared.outcome.Step.{Step}
 use Rattle.tag.specs.State.{authenticated, answering}
-use Rattle.tag.specs.Outcome.{over, apply, Did, Says, answerRoom}
+use Rattle.tag.specs.Outcome.{build, over, apply, Did, Says, answerRoom}
 use Rattle.tag.proofs.Laws.{length-build, laid, laid-suc, Naks, said}
-use Rattle.reads.specs.Read.{bound, seen, seenPage, pageByte, pagesFrom, counting, readAnswered, read, fastRead}
+use Rattle.reads.specs.Read.{bound, seen, pageByte, pagesBy, pagesFrom, counting, readAnswered, read, fastRead, Lays, Counts, Covers}
 
 -- ---- a list that is built into the front of a buffer
 
@@ -32,6 +37,10 @@ laid-four f k v0 v1 v2 v3 d l e0 e1 e2 e3 =
     ∙ ap (λ (t : List ℕ). set (set t (suc (suc k)) (f (suc (suc k)))) (suc (suc (suc k))) (f (suc (suc (suc k))))) (laid-suc f (suc k) d (omega arith))
     ∙ ap (λ (t : List ℕ). set t (suc (suc (suc k))) (f (suc (suc (suc k))))) (laid-suc f (suc (suc k)) d (omega arith))
     ∙ laid-suc f (suc (suc (suc k))) d (omega arith))
+
+build-same : (f g : ℕ → ℕ) (k : ℕ) → ((j : ℕ) → f j ≡ g j) → build f k ≡ build g k
+build-same f g zero e = refl
+build-same f g (suc k) e = ap₂ (λ (x : ℕ) (xs : List ℕ). x ∷ xs) (e 0) (build-same (λ j. f (suc j)) (λ j. g (suc j)) k (λ j. e (suc j)))
 
 -- ---- the loop over pages
 
@@ -52,34 +61,60 @@ page-next b page next first i e h = let q : first + (i + 1) ≡ first + i + 1 = 
 pub pages-length : (answer after d vs : List ℕ) (at : ℕ) → length answer ≡ length d → after ≡ sets answer at vs → length after ≡ length d
 pages-length answer after d vs at e h = rw h (length-sets answer at vs ∙ e)
 
-module _ (n first b : ℕ) (img : List ℕ) (t : Tag) where
+module _ (show : ℕ → ℕ → ℕ) (first b : ℕ) where
   -- byte k of the i-th page
-  page-byte : (i j k page : ℕ) → j / 4 ≡ i → j % 4 ≡ k → page ≡ (first + i) % b → seen n img t page k ≡ pageByte n img t first b j
+  page-byte : (i j k page : ℕ) → j / 4 ≡ i → j % 4 ≡ k → page ≡ (first + i) % b → show page k ≡ pageByte show first b j
   unfolding pageByte
   page-byte i j k page e f g = rw (e, f, g)
 
   -- a turn of the loop
-  pub pages-turn : (i page count : ℕ) (answer after d : List ℕ) → i < count → count ≤ 231 → answerRoom ≤ length d → page ≡ (first + i) % b → answer ≡ laid (pageByte n img t first b) (4 * i) d
-      → after ≡ sets answer (4 * i) (bytesOf (seenPage n img t page)) → after ≡ laid (pageByte n img t first b) (4 * (i + 1)) d
-  unfolding bytesOf seenPage
-  pages-turn i page count answer after d l m room e f g =
+  turn : (i page count : ℕ) (answer after d : List ℕ) → i < count → count ≤ 231 → answerRoom ≤ length d → page ≡ (first + i) % b → answer ≡ laid (pageByte show first b) (4 * i) d
+      → after ≡ sets answer (4 * i) (show page 0 ∷ show page 1 ∷ show page 2 ∷ show page 3 ∷ []) → after ≡ laid (pageByte show first b) (4 * (i + 1)) d
+  turn i page count answer after d l m room e f g =
       let q : 4 * (i + 1) ≡ suc (suc (suc (suc (4 * i)))) = omega arith in
       rw (g, f, q)
-      (laid-four (pageByte n img t first b) (4 * i) (seen n img t page 0) (seen n img t page 1) (seen n img t page 2) (seen n img t page 3) d (omega arith)
+      (laid-four (pageByte show first b) (4 * i) (show page 0) (show page 1) (show page 2) (show page 3) d (omega arith)
       (page-byte i (4 * i) 0 page (omega arith) (omega arith) e)
       (page-byte i (suc (4 * i)) 1 page (omega arith) (omega arith) e)
       (page-byte i (suc (suc (4 * i))) 2 page (omega arith) (omega arith) e)
       (page-byte i (suc (suc (suc (4 * i)))) 3 page (omega arith) (omega arith) e))
 
-  pub pages-end : (i count : ℕ) (answer d : List ℕ) → i ≤ count → count ≤ i → answer ≡ laid (pageByte n img t first b) (4 * i) d → answer ≡ over (pagesFrom n img t first b count) d
-  unfolding over pagesFrom
+  pub pages-end : (i count : ℕ) (answer d : List ℕ) → i ≤ count → count ≤ i → answer ≡ laid (pageByte show first b) (4 * i) d → Lays show first b count d answer
+  unfolding over pagesBy
   pages-end i count answer d l m e =
       let q : i ≡ count = omega arith in
-      rw (length-build (pageByte n img t first b) (4 * count)) (e ∙ ap (λ (k : ℕ). laid (pageByte n img t first b) (4 * k) d) q)
+      record { whole = rw (length-build (pageByte show first b) (4 * count)) (e ∙ ap (λ (k : ℕ). laid (pageByte show first b) (4 * k) d) q) }
 
-pub length-pages : (n first b count : ℕ) (img : List ℕ) (t : Tag) → length (pagesFrom n img t first b count) ≡ 4 * count
-unfolding pagesFrom
-length-pages n first b count img t = length-build (pageByte n img t first b) (4 * count)
+  pub length-pages : (count : ℕ) → length (pagesBy show first b count) ≡ 4 * count
+  unfolding pagesBy
+  length-pages count = length-build (pageByte show first b) (4 * count)
+
+module _ (n first b i page count : ℕ) (img answer after d : List ℕ) (l : i < count) (some : count ≤ 231) (room : answerRoom ≤ length d) (e : page ≡ (first + i) % b) where
+  pub pages-turn : answer ≡ laid (pageByte (shown n img) first b) (4 * i) d → after ≡ sets answer (4 * i) (bytesOf (shownPage n img page))
+      → after ≡ laid (pageByte (shown n img) first b) (4 * (i + 1)) d
+  unfolding bytesOf shownPage
+  pages-turn f g = turn (shown n img) first b i page count answer after d l some room e f g
+
+  pub mirrored-turn : (characters : List ℕ) (m : Mirror) (stored v : Four) → answer ≡ laid (pageByte (through n img m) first b) (4 * i) d → characters ≡ text n img
+      → stored ≡ shownPage n img page → v ≡ replacedPage characters m page stored → after ≡ sets answer (4 * i) (bytesOf v) → after ≡ laid (pageByte (through n img m) first b) (4 * (i + 1)) d
+  unfolding bytesOf shownPage replacedPage through
+  mirrored-turn characters m stored v f q r s g = turn (through n img m) first b i page count answer after d l some room e f (rw (s, q, r) at g)
+
+-- ---- the mirror
+
+-- where it has no character a byte is shown as before
+pub unmirrored : (n p k : ℕ) (img : List ℕ) (m : Mirror) → m .length ≡ 0 → through n img m p k ≡ shown n img p k
+unfolding through replaced
+unmirrored n p k img m e =
+    let j = 4 * p + k in
+    let from-start = leb (m .start) j in
+    let before-end = ltb j (m .start + m .length) in
+    by (λ (x : ℕ). x ≡ shown n img p k) (from-start && before-end)
+    (λ h.
+    let l : m .start ≤ j = leb-true _ _ (and-left from-start before-end h) in
+    let r : j < m .start + m .length = ltb-true _ _ (and-right from-start before-end h) in
+    absurd (omega arith))
+    (λ h. refl)
 
 -- ---- B
 
@@ -125,17 +160,57 @@ count-fits n img image′ v fit e = rw e (fits-store n img n v fit)
 pub page-laid : (answer after : List ℕ) (at : ℕ) (v w : Four) → v ≡ w → after ≡ sets answer at (bytesOf v) → after ≡ sets answer at (bytesOf w)
 page-laid answer after at v w e h = rw e at h
 
-pub seen-shown : (n page : ℕ) (img : List ℕ) (t : Tag) (v : Four) → v ≡ shownPage n img page → v ≡ seenPage n img t page
-unfolding seenPage seen shownPage
-seen-shown n page img t v e = e
+-- what is laid over the front goes over what was laid there before
+over-again : (xs ys d : List ℕ) → length xs ≡ length ys → over xs (over ys d) ≡ over xs d
+unfolding over
+over-again xs ys d e = ap (λ (t : List ℕ). xs ++ t) (drop-at ys (drop (length ys) d) (length xs) (sym e) ∙ ap (λ (k : ℕ). drop k d) (sym e))
+
+module _ (n first b count : ℕ) (img answer after : List ℕ) (t : Tag) (a : Bool) (m : Mirror) (e : a ≡ authenticated t) (f : m ≡ mirrorFor n img a) where
+  of-tag : Covers n img m first b count answer after → Covers n img (mirrorFor n img (authenticated t)) first b count answer after
+  of-tag h = rw (f, e) at h
+
+  pub no-mirror : m .length ≡ 0 → after ≡ answer → Covers n img (mirrorFor n img (authenticated t)) first b count answer after
+  no-mirror z h = of-tag (record { whole = simp z h })
+
+  pub mirror-laid : (m .length ≡ 0 → ⊥) → Lays (through n img m) first b count answer after → Covers n img (mirrorFor n img (authenticated t)) first b count answer after
+  mirror-laid z h = of-tag (record { whole = simp (ne-eqb _ _ z) (h .whole) })
+
+pub unchosen : (n first b count : ℕ) (img answer : List ℕ) (a r : Bool) → r ≡ isChosen n img → r ≡ false → Covers n img (mirrorFor n img a) first b count answer answer
+unchosen n first b count img answer a r e f = record { whole = rw (← not-chosen n img a (flag r _ _ e f)) refl }
+
+pub unmirrored-pages : (n first b count : ℕ) (img : List ℕ) (t : Tag) → mirrorFor n img (authenticated t) .length ≡ 0
+    → pagesBy (shown n img) first b count ≡ pagesFrom n img t first b count
+unfolding pagesBy pageByte seen
+unmirrored-pages n first b count img t z = build-same _ _ (4 * count) (λ j. sym (unmirrored n ((first + j / 4) % b) (j % 4) img _ z))
+
+-- pages as they are stored, and the mirror over them: pages as they are seen
+module _ (n first b count : ℕ) (img before : List ℕ) (t : Tag) where
+  abbrev m : Mirror
+  m = mirrorFor n img (authenticated t)
+
+  seen-after : (stored mid : List ℕ) → Lays (shown n img) first b count before stored → Covers n img m first b count stored mid → Lays (seen n img t) first b count before mid
+  unfolding seen
+  seen-after stored mid p q =
+      let pages = pagesFrom n img t first b count in
+      let length-same = length-pages (seen n img t) first b count ∙ sym (length-pages (shown n img) first b count) in
+      let result : cond (eqb (m .length) 0) stored (over pages stored) ≡ over pages before
+      = by (λ (x : List ℕ). x ≡ over pages before) (eqb (m .length) 0)
+      (λ z. p .whole ∙ ap (λ (xs : List ℕ). over xs before) (unmirrored-pages n first b count img t (eqb-true _ _ z)))
+      (λ _. ap (λ (d : List ℕ). over pages d) (p .whole) ∙ over-again pages _ before length-same) in
+      record { whole = q .whole ∙ result }
 
 module _ (n : ℕ) (img : List ℕ) (t : Tag) where
-  pub given : (first b count : ℕ) (t′ : Tag) (r : Step) (image′ before mid after : List ℕ) → (t′ ≡ answering t) × (image′ ≡ apply img (counting n img t))
-      → mid ≡ over (pagesFrom n image′ t first b count) before → Says (4 * count) t′ r mid after → Did (readAnswered n img t first b count) r img image′ before after
+  pub counted-pages : (first b count : ℕ) (t′ : Tag) (image′ before after : List ℕ) → (t′ ≡ answering t) × (image′ ≡ apply img (counting n img t))
+      → Lays (shown n image′) first b count before after → Counts n img t first b count t′ image′ before after
+  counted-pages first b count t′ image′ before after c p = record { tag = c .0; image = c .1; pages = p }
+
+  pub given : (first b count : ℕ) (t′ : Tag) (r : Step) (image′ before stored mid after : List ℕ) → Counts n img t first b count t′ image′ before stored
+      → Covers n image′ (mirrorFor n image′ (authenticated t)) first b count stored mid → Says (4 * count) t′ r mid after → Did (readAnswered n img t first b count) r img image′ before after
   unfolding readAnswered
-  given first b count t′ r image′ before mid after c em s =
+  given first b count t′ r image′ before stored mid after c q s =
       said (pagesFrom n (apply img (counting n img t)) t first b count) (counting n img t) (answering t) r (4 * count) img image′ before mid after
-      (length-pages n first b count (apply img (counting n img t)) t) (rw (c .1) at em) (rw (c .0) at s) (c .1)
+      (length-pages (seen n (apply img (counting n img t)) t) first b count) (rw (c .image) at (seen-after n first b count image′ before t stored mid (c .pages) q .whole))
+      (rw (c .tag) at s) (c .image)
 
   module _ (b : ℕ) (r : Step) (image′ before after : List ℕ) (eb : (b ≡ bound n img t) × (b ≤ n)) where
     pub read-data : (a x : ℕ) → (a ≡ x) × (a < 256) → a < b → Did (readAnswered n img t a b 4) r img image′ before after → Did (read n img t x) r img image′ before after

@@ -1,16 +1,18 @@
 -- READ and FAST_READ, after document 01's "Commands in ACTIVE": n is the number of pages, img the image, t the tag. Assumes nothing.
+use mathlib.Core.Path.{_≡_}
 use mathlib.Core.List.{List}
 use mathlib.Core.Bool.{cond, not, _&&_}
 use Prim.Native.Nat.{ℕ, _+_, _-_, _*_, _/_, _%_}
-use lib.Dec.{leb, ltb}
-use Rattle.image.specs.declared.layout.Four.{Four}
+use lib.Dec.{eqb, leb, ltb}
 use Rattle.image.specs.Layout.{pageAt, tailPage}
 use Rattle.image.specs.Settings.{auth0, prot, counterOn}
+use Rattle.image.specs.declared.mirror.Mirror.{Mirror}
+use Rattle.image.specs.Mirror.{through, mirrored}
 use Rattle.image.specs.Shown.{shown}
 use Rattle.image.specs.Tail.{counted}
 use Rattle.tag.specs.declared.state.Tag.{Tag}
 use Rattle.tag.specs.State.{authenticated, answering}
-use Rattle.tag.specs.Outcome.{build, Effect, keep, put, apply, Does, nak, says}
+use Rattle.tag.specs.Outcome.{build, over, Effect, keep, put, apply, Does, nak, says}
 
 -- "Let B be AUTH0 if PROT is set, the tag isn't authenticated and AUTH0 < N; else N."
 unfoldable pub bound : ℕ → List ℕ → Tag → ℕ
@@ -18,20 +20,20 @@ bound n img t = cond (prot n img && (not (authenticated t) && ltb (auth0 n img) 
 
 -- ---- READ and FAST_READ
 
--- "READ shows stored bytes"; "PWD and PACK pages always read as zeros.": what READ and FAST_READ show of byte k of page p, on a tag in this
--- state. The two wires don't go through here.
+-- "READ shows stored bytes"; "PWD and PACK pages always read as zeros.", and document 02's Q-3: "READ and FAST_READ show the characters": what
+-- they show of byte k of page p, on a tag in this state. "memory and bus reads don't change": the two wires don't go through here.
 unfoldable pub seen : ℕ → List ℕ → Tag → ℕ → ℕ → ℕ
-seen n img t p k = shown n img p k
+seen n img t p k = mirrored n img (authenticated t) p k
 
-unfoldable pub seenPage : ℕ → List ℕ → Tag → ℕ → Four
-seenPage n img t p = record { b0 = seen n img t p 0; b1 = seen n img t p 1; b2 = seen n img t p 2; b3 = seen n img t p 3 }
+-- byte j of the pages a, a+1, .., which go round at b, where byte k of page p is `show p k`
+unfoldable pub pageByte : (ℕ → ℕ → ℕ) → ℕ → ℕ → ℕ → ℕ
+pageByte show a b j = show ((a + j / 4) % b) (j % 4)
 
--- byte j of the pages a, a+1, .., which go round at b
-unfoldable pub pageByte : ℕ → List ℕ → Tag → ℕ → ℕ → ℕ → ℕ
-pageByte n img t a b j = seen n img t ((a + j / 4) % b) (j % 4)
+unfoldable pub pagesBy : (ℕ → ℕ → ℕ) → ℕ → ℕ → ℕ → List ℕ
+pagesBy show a b count = build (pageByte show a b) (4 * count)
 
-unfoldable pub pagesFrom : ℕ → List ℕ → Tag → ℕ → ℕ → ℕ → List ℕ
-pagesFrom n img t a b count = build (pageByte n img t a b) (4 * count)
+abbrev pub pagesFrom : ℕ → List ℕ → Tag → ℕ → ℕ → ℕ → List ℕ
+pagesFrom n img t a b count = pagesBy (seen n img t) a b count
 
 -- "The first READ or FAST_READ answered with data since field loss adds 1 to the counter if it is on"; "Later ones don't count, even if
 -- the first found it off."
@@ -49,3 +51,19 @@ read n img t a = let b = bound n img t in cond (ltb a b) (readAnswered n img t a
 -- "FAST_READ 3Ah s e: NAK 0h unless s ≤ e < B. Pages s to e.": below B none goes round
 unfoldable pub fastRead : ℕ → List ℕ → Tag → ℕ → ℕ → Does
 fastRead n img t s e = let b = bound n img t in cond (leb s e && ltb e b) (readAnswered n img t s b (e + 1 - s)) (nak t 0)
+
+-- ---- what is promised of an answer's bytes, before and after
+
+-- pages were laid over its start, each byte k of a page p being `show p k`, and the rest stayed
+pub record Lays (show : ℕ → ℕ → ℕ) (a b count : ℕ) (before after : List ℕ) : Type 0 where
+  pub whole : after ≡ over (pagesBy show a b count) before
+
+-- a read was counted, and pages were laid as they are stored then; t′ is the tag that is left
+pub record Counts (n : ℕ) (img : List ℕ) (t : Tag) (a b count : ℕ) (t′ : Tag) (image′ before after : List ℕ) : Type 0 where
+  pub tag : t′ ≡ answering t
+  pub image : image′ ≡ apply img (counting n img t)
+  pub pages : Lays (shown n image′) a b count before after
+
+-- these pages were laid through the mirror m, or it shows nothing and all stayed
+pub record Covers (n : ℕ) (img : List ℕ) (m : Mirror) (a b count : ℕ) (before after : List ℕ) : Type 0 where
+  pub whole : after ≡ cond (eqb (m .length) 0) before (over (pagesBy (through n img m) a b count) before)

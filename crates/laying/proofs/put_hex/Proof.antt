@@ -5,7 +5,7 @@ use lib.ListN.{length, take, length-set}
 use mathlib.Core.Path.{_≡_}
 use mathlib.Core.List.{_++_}
 use native.Mathlib.Omega.{arith}
-use Rattle.laying.specs.Parts.{hexOf}
+use Rattle.basics.specs.Hex.{hexOf}
 use Rattle.laying.proofs.Laying.{hex-start, hex-turn, hex-end}
 use Rattle.laying.proofs.put_hex.Statement.{statement}
 use Rattle.laying.proofs.put_hex.Tie as tie

@@ -9,9 +9,9 @@ give-spec =
     tie.close
     (tie.spec
     (λ c κs. search needs)
-    (λ c κs. search needs)
+    (λ c κs. (record { fit = search needs; room = search needs }, search needs, search needs, search needs))
     (λ c. search needs)
     (λ c κs. search needs)
     (λ c. search needs)
     (λ c. search needs)
-    (λ c. search given))
+    (λ c. given _ _ _ _ _ _ _ _ _ _ _ _ _ (c .before .before .before .before .before .before .before .before .before .before .before .before .before .lay-counted .ensures .0) (c .before .before .before .before .before .before .mirror-pages .ensures) (c .before .before .says .ensures)))

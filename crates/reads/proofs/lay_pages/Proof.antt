@@ -3,6 +3,7 @@ use mathlib.Core.Path.{_≡_}
 use Prim.Native.Nat.{_+_, _-_, _*_, _%_, _≤_, _<_}
 use lib.ListN.{length}
 use borrow.Author.Needs.{needs}
+use Rattle.image.specs.Shown.{shown}
 use Rattle.reads.specs.Read.{pageByte}
 use Rattle.tag.proofs.Laws.{laid}
 use Rattle.reads.proofs.Laws.{page-first, page-next, pages-turn, pages-length, pages-end}
@@ -10,11 +11,11 @@ use Rattle.reads.proofs.lay_pages.Statement.{statement}
 use Rattle.reads.proofs.lay_pages.Tie as tie
 
 abbrev Inv-loop : tie.InvT-loop
-Inv-loop image answer₀ n tag first b count page₀ i₀ answer page i =
-    (i ≤ count) × (page ≡ (first + i) % b) × (page < b) × (answer ≡ laid (pageByte n image tag first b) (4 * i) answer₀) × (length answer ≡ length answer₀)
+Inv-loop image answer₀ n first b count page₀ i₀ answer page i =
+    (i ≤ count) × (page ≡ (first + i) % b) × (page < b) × (answer ≡ laid (pageByte (shown n image) first b) (4 * i) answer₀) × (length answer ≡ length answer₀)
 
 abbrev μ-loop : tie.MeasureT-loop
-μ-loop image answer₀ n tag first b count page₀ i₀ answer page i = count - i
+μ-loop image answer₀ n first b count page₀ i₀ answer page i = count - i
 
 pub lay-pages-spec : {M : Type 1} → statement M
 lay-pages-spec =
