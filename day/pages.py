@@ -9,6 +9,13 @@ def hexed(data):
     return " ".join(f"{byte:02X}" for byte in data)
 
 
+def mirror_of(four):
+    """What the first settings page says of the mirror, or nothing where it chooses none."""
+    mode, byte = four[0] >> 6, four[0] >> 4 & 3
+    chosen = ["", "the UID", "the counter", "UID and counter"][mode]
+    return f", mirror of {chosen} from byte {byte} of page {four[2]:02X}h" if chosen else ""
+
+
 def what_page_is(count, page, four):
     """What a page of an image of so many pages is; `page` may be the tail's, behind the last."""
     fixed = {
@@ -17,7 +24,7 @@ def what_page_is(count, page, four):
         2: "BCC1, a byte that stays, static locks",
         3: "capability container",
         count - 5: "dynamic locks, block bits in byte 2",
-        count - 4: f"settings: AUTH0 {four[3]:02X}h",
+        count - 4: f"settings: AUTH0 {four[3]:02X}h{mirror_of(four)}",
         count - 3: f"settings: ACCESS {four[0]:02X}h",
         count - 2: "PWD",
         count - 1: "PACK",

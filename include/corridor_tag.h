@@ -33,7 +33,7 @@
  * event back until corridor_frame has returned. corridor_screen only reads its image, and may not be interrupted by a call that changes it.
  * docs/COST.md has how long calls take.
  *
- * Stack. The deepest that was measured on x86-64 is 352 bytes, the caller's frame among them (docs/COST.md).
+ * Stack. The deepest that was measured on x86-64 is 456 bytes, the caller's frame among them (docs/COST.md).
  *
  * When to save the image and the data memory. Three kinds of frames, one event and the writer can change the image, so a copy in flash is behind
  * only after one of these. No frame changes the data memory; a stop changes one of the two, never both:
@@ -71,12 +71,19 @@ extern "C" {
  *     capability     03h      03h      03h      the capability container, whose bits a WRITE sets and never clears
  *     user pages     04h-27h  04h-81h  04h-E1h  yours
  *     dynamic locks  28h      82h      E2h      lock bits in bytes 0 and 1, block bits in byte 2
- *     settings       29h      83h      E3h      byte 3: AUTH0, the first page under password, FFh for none
+ *     settings       29h      83h      E3h      byte 0: bits 7-6 the mirror, 0 for none, 1 UID, 2 counter, 3 both; bits 5-4 the byte in the
+ *                                               page where it begins, and byte 2 that page; byte 3: AUTH0, the first page under password,
+ *                                               FFh for none
  *                    2Ah      84h      E4h      byte 0: ACCESS, bit 7 PROT (reads too), 6 settings lock, 4 counter on, 3 counter under
  *                                               password, 2 to 0 AUTHLIM, so many wrong passwords or 0 for any number
  *     PWD            2Bh      85h      E5h      the password; reads as zeros
  *     PACK           2Ch      86h      E6h      bytes 0 and 1 answer the right password; reads as zeros
  *     tail           behind the last page       bytes 0 to 2: the counter, low first; byte 3: how many wrong passwords came
+ *
+ * The mirror is what READ and FAST_READ show in user pages in place of the stored bytes: the UID in hex, 14 characters, the counter, 6, its high
+ * byte first, or both, 21, with an x between. It is shown whole or not at all: not where it begins below page 04h or passes the user pages, and
+ * with the counter in it not where that is off, or is under password and the tag isn't authenticated. The image keeps the stored bytes, and the
+ * two wires and corridor_screen read those.
  *
  * Every image of one of the three lengths is served, whatever its bytes are. On the wires locks and password don't bind; image bytes 0 to 9 and
  * the tail can't be written there.
