@@ -26,7 +26,7 @@ none = standing 0 0 0
 unfoldable pub chosen : ℕ → ℕ → Mirror
 chosen mode start = cond (eqb mode 0) none (cond (eqb mode 1) (standing start 14 0) (cond (eqb mode 2) (standing start 6 15) (standing start 21 0)))
 
--- whether they choose one
+-- whether they choose one at all
 abbrev pub isChosen : ℕ → List ℕ → Bool
 isChosen n img = leb 64 (byte img (firstSettings n) 0)
 

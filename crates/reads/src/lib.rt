@@ -91,7 +91,7 @@ fn lay_mirrored(
     }
 }
 
-// Over pages that are laid as they are stored goes the mirror. All that READ and FAST_READ show goes through here.
+// Over pages that are laid as they are stored goes the mirror that this reader sees.
 fn lay_mirror(
     image: &[u8],
     answer: &mut [u8],
@@ -146,8 +146,7 @@ fn lay_counted(
     left
 }
 
-// FAST_READ's pages, and READ's four below. With their number known the compiler unrolls the loops over READ's pages and over its CRC_A, and a
-// board with no mirror pays one test.
+// The same, where the settings choose one: on most boards that is one test.
 fn mirror_pages(
     image: &[u8],
     answer: &mut [u8],
@@ -165,6 +164,16 @@ fn mirror_pages(
     }
 }
 
+fn mirror_four(image: &[u8], answer: &mut [u8], n: usize, tag: Tag, first: usize, b: usize)
+    requires { ⌜ Room n (now image) (now answer) × (first < b) × (b ≤ n) ⌝ }
+    ensures { λ _. ⌜ Covers n (now (image .entry)) (mirrorFor n (now (image .entry)) (authenticated tag)) first b 4 (now (answer .entry)) (now (answer .exit)) ⌝ }
+{
+    if image::mirror::is_chosen(image, n) {
+        lay_mirror(image, answer, n, tag, first, b, 4);
+    }
+}
+
+// FAST_READ's answer.
 fn give(
     image: &mut [u8],
     answer: &mut [u8],
@@ -182,15 +191,7 @@ fn give(
     says(answer, 4 * pages, left)
 }
 
-fn mirror_four(image: &[u8], answer: &mut [u8], n: usize, tag: Tag, first: usize, b: usize)
-    requires { ⌜ Room n (now image) (now answer) × (first < b) × (b ≤ n) ⌝ }
-    ensures { λ _. ⌜ Covers n (now (image .entry)) (mirrorFor n (now (image .entry)) (authenticated tag)) first b 4 (now (answer .entry)) (now (answer .exit)) ⌝ }
-{
-    if image::mirror::is_chosen(image, n) {
-        lay_mirror(image, answer, n, tag, first, b, 4);
-    }
-}
-
+// READ's, of the same three steps. With the number of pages known the compiler unrolls the loops over them and over their CRC_A.
 fn give_four(
     image: &mut [u8],
     answer: &mut [u8],
