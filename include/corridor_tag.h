@@ -81,9 +81,9 @@ extern "C" {
  *     tail           behind the last page       bytes 0 to 2: the counter, low first; byte 3: how many wrong passwords came
  *
  * The mirror is what READ and FAST_READ show in user pages in place of the stored bytes: the UID in hex, 14 characters, the counter, 6, its high
- * byte first, or both, 21, with an x between. It is shown whole or not at all: not where it begins below page 04h or passes the user pages, and
- * with the counter in it not where that is off, or is under password and the tag isn't authenticated. The image keeps the stored bytes, and the
- * two wires and corridor_screen read those.
+ * byte first, or both, 21, with an x between. There is none at all where it would begin below page 04h or pass the user pages, and with the
+ * counter in it none where that is off, or is under password and the tag isn't authenticated. On pages that a reader may not read it isn't seen,
+ * as nothing of them is. The image keeps the stored bytes, and the two wires and corridor_screen read those.
  *
  * Every image of one of the three lengths is served, whatever its bytes are. On the wires locks and password don't bind; image bytes 0 to 9 and
  * the tail can't be written there.
