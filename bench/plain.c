@@ -45,15 +45,24 @@ static unsigned two_bytes(const uint8_t *low_first)
 
 /* ---- CRC_A: "polynomial x^16+x^12+x^5+1, reflected, start 6363h, low byte first" */
 
+/* Sixteen shifts of the register at once. */
+static unsigned sixteen_shifts(unsigned x)
+{
+    x ^= x << 8;
+    const unsigned out = (x ^ x << 4 ^ x << 11) & 0xFFFF;
+    return out ^ out >> 5 ^ out >> 12;
+}
+
 static unsigned crc_a(const uint8_t *data, size_t length)
 {
-    uint32_t crc = 0x6363;
-    while (length-- > 0) {
-        uint32_t byte = (*data++ ^ crc) & 0xFF;
-        byte = (byte ^ byte << 4) & 0xFF;
-        crc = crc >> 8 ^ byte << 8 ^ byte << 3 ^ byte >> 4;
+    unsigned crc = 0x6363;
+    for (; length >= 2; length -= 2, data += 2)
+        crc = sixteen_shifts(crc ^ two_bytes(data));
+    if (length == 1) {
+        crc ^= *data;
+        crc = crc >> 8 ^ sixteen_shifts(crc << 8 & 0xFFFF);
     }
-    return (unsigned)crc;
+    return crc;
 }
 
 /* Whether the last two bytes are the CRC_A of those before them. */

@@ -20,14 +20,26 @@ standard-examples = record { zeros = refl; counted = refl }
 
 -- ---- the bytes: what is left of them, from the register so far, comes to the whole's
 
-pub byte-turn : (bytes : List ℕ) (i register next : ℕ) → i < length bytes → bytesIn register (drop i bytes) ≡ crcA bytes → next ≡ byteIn register (getD bytes i 0)
+byte-turn : (bytes : List ℕ) (i register next : ℕ) → i < length bytes → bytesIn register (drop i bytes) ≡ crcA bytes → next ≡ byteIn register (getD bytes i 0)
     → bytesIn next (drop (i + 1) bytes) ≡ crcA bytes
 unfolding bytesIn
 byte-turn bytes i register next l h e = rw (e, add-one) (ap (bytesIn register) (sym (drop-cons bytes i 0 l)) ∙ h)
 
+pub two-turn : (bytes : List ℕ) (i register next : ℕ) → 2 ≤ length bytes - i → bytesIn register (drop i bytes) ≡ crcA bytes
+    → next ≡ byteIn (byteIn register (getD bytes i 0)) (getD bytes (i + 1) 0) → bytesIn next (drop (i + 2) bytes) ≡ crcA bytes
+two-turn bytes i register next l h e =
+    let middle = byteIn register (getD bytes i 0) in
+    let once : bytesIn middle (drop (i + 1) bytes) ≡ crcA bytes = byte-turn bytes i register middle (omega arith) h refl in
+    let two : i + 2 ≡ i + 1 + 1 = omega arith in
+    ap (λ (k : ℕ). bytesIn next (drop k bytes)) two ∙ byte-turn bytes (i + 1) middle next (omega arith) once e
+
 pub byte-end : (bytes : List ℕ) (i register : ℕ) → length bytes ≤ i → bytesIn register (drop i bytes) ≡ crcA bytes → register ≡ crcA bytes
 unfolding bytesIn
 byte-end bytes i register l h = ap (bytesIn register) (sym (drop-of-length-le bytes l)) ∙ h
+
+pub last-byte : (bytes : List ℕ) (i register next : ℕ) → i < length bytes → length bytes - i < 2 → bytesIn register (drop i bytes) ≡ crcA bytes
+    → next ≡ byteIn register (getD bytes i 0) → next ≡ crcA bytes
+last-byte bytes i register next l m h e = byte-end bytes (i + 1) next (omega arith) (byte-turn bytes i register next l h e)
 
 -- ---- behind a buffer's bytes
 

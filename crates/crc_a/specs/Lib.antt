@@ -1,2 +1,2 @@
 pub mod CrcA
-pub mod Byte
+pub mod Unrolled

@@ -1,40 +1,51 @@
 // CRC_A, the check sum of ISO/IEC 14443-3: of a slice, behind the bytes of a buffer, and at a frame's end.
 use basics::low_first;
 ghost use mathlib.Core.Path.{_≡_};
-ghost use Prim.Native.Nat.{_+_, _≤_, _<_};
+ghost use Prim.Native.Nat.{_+_, _≤_};
 ghost use lib.ListN.{length, take};
 ghost use lib.Seq.{sets};
-ghost use Rattle.crc_a.specs.CrcA.{byteIn, crcA, sent, crcRight};
-ghost use Rattle.crc_a.specs.Byte.{spread};
+ghost use Rattle.crc_a.specs.CrcA.{shiftedBy, byteIn, crcA, sent, crcRight};
 
-// The low byte of the register, with its low half laid over its high half.
-fn spread(low: u16) -> u16
-    requires { ⌜ low < 256 ⌝ }
-    ensures { λ r. ⌜ (r ≡ spread low) × (r < 256) ⌝ }
+// Sixteen shifts of the register at once. Bit k of `out` is what shift k lets out: it stood in x, or the polynomial put it in, 4 or 11 shifts before.
+fn sixteen_shifts(x: u16) -> u16
+    ensures { λ r. ⌜ r ≡ shiftedBy 16 x ⌝ }
 {
-    low ^ (low % 16 * 16)
+    let a = x ^ (x << 8);
+    let out = a ^ (a << 4) ^ (a << 11);
+    out ^ (out >> 5) ^ (out >> 12)
 }
 
 // A byte goes into the register: its eight shifts at once.
 fn take_byte(c: u16, b: u8) -> u16
     ensures { λ r. ⌜ r ≡ byteIn c b ⌝ }
 {
-    let register = c ^ b as u16;
-    let t = spread(register % 256);
-    (register / 256) ^ ((t * 256) ^ (t * 8) ^ (t / 16))
+    let x = c ^ b as u16;
+    (x >> 8) ^ sixteen_shifts(x << 8)
+}
+
+// Two bytes go in.
+fn take_two(c: u16, b0: u8, b1: u8) -> u16
+    ensures { λ r. ⌜ r ≡ byteIn (byteIn c b0) b1 ⌝ }
+{
+    sixteen_shifts(c ^ low_first(b0, b1))
 }
 
 // The CRC_A of all the bytes. As sent, its low byte goes first.
 pub fn crc_a(bytes: &[u8]) -> u16
     ensures { λ r. ⌜ r ≡ crcA (now (bytes .entry)) ⌝ }
 {
+    let n = bytes.len();
     let mut register: u16 = 0x6363;
     let mut i = 0;
-    while i < bytes.len() {
-        register = take_byte(register, bytes[i]);
-        i += 1;
+    while n - i >= 2 {
+        register = take_two(register, bytes[i], bytes[i + 1]);
+        i += 2;
     }
-    register
+    if i < n {
+        take_byte(register, bytes[i])
+    } else {
+        register
+    }
 }
 
 // The CRC_A of the buffer's first n bytes is stored behind them.

@@ -4,15 +4,15 @@ use Prim.Native.Nat.{_-_, _≤_}
 use lib.ListN.{length, drop}
 use borrow.Author.Needs.{needs}
 use Rattle.crc_a.specs.CrcA.{start, bytesIn, crcA}
-use Rattle.crc_a.proofs.Laws.{byte-turn, byte-end}
+use Rattle.crc_a.proofs.Laws.{two-turn, last-byte, byte-end}
 use Rattle.crc_a.proofs.crc_a.Statement.{statement}
 use Rattle.crc_a.proofs.crc_a.Tie as tie
 
 abbrev Inv-loop : tie.InvT-loop
-Inv-loop bytes register₀ i₀ register i = (i ≤ length bytes) × (bytesIn register (drop i bytes) ≡ crcA bytes)
+Inv-loop bytes n register₀ i₀ register i = (i ≤ length bytes) × (bytesIn register (drop i bytes) ≡ crcA bytes)
 
 abbrev μ-loop : tie.MeasureT-loop
-μ-loop bytes register₀ i₀ register i = length bytes - i
+μ-loop bytes n register₀ i₀ register i = length bytes - i
 
 loop-holds : tie.Need-loop-holds Inv-loop μ-loop
 unfolding crcA start
@@ -26,8 +26,14 @@ crc-a-spec =
     μ-loop
     loop-holds
     (λ c. search needs)
+    (λ c. search needs)
+    (λ c. search needs)
+    (λ c. search needs)
     (λ c κs. search needs)
     (λ c. search needs)
     (λ c. search needs)
-    (λ c. (search needs, search byte-turn))
+    (λ c. (search needs, search two-turn))
+    (λ c. search needs)
+    (λ c κs. search needs)
+    (λ c. search last-byte)
     (λ c. search byte-end))

@@ -1,0 +1,216 @@
+-- Shifts at once. The shifts and what the code does in their place are linear: what they make of an exclusive-or is the exclusive-or of what they
+-- make of its two sides. So they are the same where they are the same for each single bit, and for those it is computed. Assumes nothing.
+use mathlib.Core.Path.{_≡_, refl, sym, ap, ap₂, subst, _∙_}
+use mathlib.Core.List.{List, [], _∷_}
+use mathlib.Core.Bool.{Bool, true, false, _&&_}
+use Prim.Native.Nat.{ℕ, zero, suc, _+_, _-_, _*_, _/_, _%_, _^_, _<_}
+use native.Mathlib.Nat.{zero-add, suc-add, mul-one, one-mul, zero-mul, mul-assoc, pow-suc, mod-lt, add-zero}
+use native.Mathlib.Omega.{arith}
+use lib.Arith.{bin-ind}
+use lib.Bits.{bitXor, differ, xor-step, xor-comm, xor-zero-r, xor-self, xor-shifted, xor-block, xor-shr, xor-mod, xor-lt}
+use lib.Dec.{eqb}
+use lib.ListN.{length, getD}
+use lib.Pow.{pow-pos, shr-lt, split}
+use borrow.Author.Tests.{eqb-true}
+use Rattle.basics.proofs.Choice.{and-left, and-right}
+use Rattle.basics.specs.Bytes.{lowFirst}
+use Rattle.crc_a.specs.CrcA.{polynomial, start, shifted, shiftedBy, byteIn, bytesIn, crcA}
+use Rattle.crc_a.specs.Unrolled.{up, atOnce, byteAtOnce, twoAtOnce, bytesAtOnce, Bytes, SameCrcA}
+
+-- ---- exclusive-or, bit by bit
+
+differ-lt : (x y : ℕ) → x < 2 → y < 2 → differ x y < 2
+differ-lt zero y h k = k
+differ-lt (suc zero) zero h k = h
+differ-lt (suc zero) (suc zero) h k = omega arith
+differ-lt (suc zero) (suc (suc y)) h k = absurd (omega arith)
+differ-lt (suc (suc x)) y h k = absurd (omega arith)
+
+differ-assoc : (x y z : ℕ) → x < 2 → y < 2 → z < 2 → differ (differ x y) z ≡ differ x (differ y z)
+differ-assoc zero y z h k l = refl
+differ-assoc (suc zero) zero z h k l = refl
+differ-assoc (suc zero) (suc zero) zero h k l = refl
+differ-assoc (suc zero) (suc zero) (suc zero) h k l = refl
+differ-assoc (suc zero) (suc zero) (suc (suc z)) h k l = absurd (omega arith)
+differ-assoc (suc zero) (suc (suc y)) z h k l = absurd (omega arith)
+differ-assoc (suc (suc x)) y z h k l = absurd (omega arith)
+
+module _ (a b : ℕ) where
+  low-lt : differ (a % 2) (b % 2) < 2
+  low-lt = differ-lt (a % 2) (b % 2) (omega arith) (omega arith)
+
+  half : bitXor a b / 2 ≡ bitXor (a / 2) (b / 2)
+  half = omega (arith, xor-step a b, low-lt)
+
+  low : bitXor a b % 2 ≡ differ (a % 2) (b % 2)
+  low = omega (arith, xor-step a b, low-lt)
+
+xor-assoc : (a b c : ℕ) → bitXor (bitXor a b) c ≡ bitXor a (bitXor b c)
+xor-assoc =
+    bin-ind (λ (n : ℕ). (b c : ℕ) → bitXor (bitXor n b) c ≡ bitXor n (bitXor b c)) (λ b c. refl)
+    (λ n ih b c.
+    xor-step (bitXor n b) c
+    ∙ ap₂ (λ (x y : ℕ). x * 2 + y)
+    (ap (λ (x : ℕ). bitXor x (c / 2)) (half n b) ∙ ih (b / 2) (c / 2) ∙ ap (bitXor (n / 2)) (sym (half b c)))
+    (ap (λ (x : ℕ). differ x (c % 2)) (low n b) ∙ differ-assoc (n % 2) (b % 2) (c % 2) (omega arith) (omega arith) (omega arith) ∙ ap (differ (n % 2)) (sym (low b c)))
+    ∙ sym (xor-step n (bitXor b c)))
+
+xor-four : (a b c d : ℕ) → bitXor (bitXor a b) (bitXor c d) ≡ bitXor (bitXor a c) (bitXor b d)
+xor-four a b c d =
+    xor-assoc a b (bitXor c d)
+    ∙ ap (bitXor a) (sym (xor-assoc b c d) ∙ ap (λ (x : ℕ). bitXor x d) (xor-comm b c) ∙ xor-assoc c b d)
+    ∙ sym (xor-assoc a c (bitXor b d))
+
+-- ---- what is linear
+
+record Linear (f : ℕ → ℕ) : Type 0 where
+  over : (a b : ℕ) → f (bitXor a b) ≡ bitXor (f a) (f b)
+
+itself : Linear (λ (x : ℕ). x)
+itself = record { over = λ a b. refl }
+
+scaled : (k a b : ℕ) → bitXor a b * 2 ^ k ≡ bitXor (a * 2 ^ k) (b * 2 ^ k)
+scaled k a b = let h = xor-block k a b 0 0 (pow-pos k) (pow-pos k) in sym (simp add-zero at h)
+
+moved-up : (k : ℕ) → Linear (up k)
+moved-up k = record { over = λ a b. ap (λ (x : ℕ). x % 2 ^ 16) (scaled k a b) ∙ xor-mod (a * 2 ^ k) (b * 2 ^ k) 16 }
+
+moved-down : (k : ℕ) → Linear (λ (x : ℕ). x / 2 ^ k)
+moved-down k = record { over = λ a b. xor-shr a b k }
+
+both : {f g : ℕ → ℕ} → Linear f → Linear g → Linear (λ (x : ℕ). bitXor (f x) (g x))
+both {f} {g} h k = record { over = λ a b. ap₂ bitXor (h .over a b) (k .over a b) ∙ xor-four (f a) (f b) (g a) (g b) }
+
+infixl 20 _then_
+_then_ : {f g : ℕ → ℕ} → Linear f → Linear g → Linear (λ (x : ℕ). g (f x))
+_then_ {f} {g} h k = record { over = λ a b. ap g (h .over a b) ∙ k .over (f a) (f b) }
+
+-- ---- the shifts are linear
+
+fed-back : (x y : ℕ) → x < 2 → y < 2 → differ x y * polynomial ≡ bitXor (x * polynomial) (y * polynomial)
+unfolding polynomial
+fed-back zero zero h k = refl
+fed-back zero (suc zero) h k = refl
+fed-back zero (suc (suc y)) h k = absurd (omega arith)
+fed-back (suc zero) zero h k = refl
+fed-back (suc zero) (suc zero) h k = refl
+fed-back (suc zero) (suc (suc y)) h k = absurd (omega arith)
+fed-back (suc (suc x)) y h k = absurd (omega arith)
+
+shifted-linear : Linear shifted
+unfolding shifted
+shifted-linear =
+    let fed : Linear (λ (x : ℕ). x % 2 * polynomial) = record { over = λ a b. ap (λ (x : ℕ). x * polynomial) (low a b) ∙ fed-back (a % 2) (b % 2) (omega arith) (omega arith) } in
+    both (moved-down 1) fed
+
+shifts-linear : (k : ℕ) → Linear (shiftedBy k)
+unfolding shiftedBy
+shifts-linear zero = itself
+shifts-linear (suc k) = shifted-linear then (shifts-linear k)
+
+-- ---- the high byte moves down
+
+shifted-even : (m : ℕ) → shifted (m * 2) ≡ m
+unfolding shifted polynomial
+shifted-even m =
+    let h : m * 2 / 2 ≡ m = omega arith in
+    let z : m * 2 % 2 ≡ 0 = omega arith in
+    ap₂ (λ (x y : ℕ). bitXor x (y * polynomial)) h z ∙ xor-zero-r m
+
+high-shifts : (k h : ℕ) → shiftedBy k (h * 2 ^ k) ≡ h
+unfolding shiftedBy
+high-shifts zero h = mul-one h
+high-shifts (suc k) h =
+    ap (λ (x : ℕ). shiftedBy k (shifted x)) (ap (λ (x : ℕ). h * x) (pow-suc 2 k) ∙ sym (mul-assoc h (2 ^ k) 2))
+    ∙ ap (shiftedBy k) (shifted-even (h * 2 ^ k))
+    ∙ high-shifts k h
+
+-- ---- the same for each of n single bits, the same for each row of n bits
+
+zero-stays : (f : ℕ → ℕ) → Linear f → f 0 ≡ 0
+zero-stays f h = h .over 0 0 ∙ xor-self (f 0)
+
+module _ (f g : ℕ → ℕ) where
+  alike : ℕ → Bool
+  alike zero = true
+  alike (suc k) = eqb (f (2 ^ k)) (g (2 ^ k)) && alike k
+
+  -- the highest of the bits, or none
+  top : Linear f → Linear g → (n h : ℕ) → f (2 ^ n) ≡ g (2 ^ n) → h < 2 → f (h * 2 ^ n) ≡ g (h * 2 ^ n)
+  top h k n zero e l = rw (zero-mul (2 ^ n)) (zero-stays f h ∙ sym (zero-stays g k))
+  top h k n (suc zero) e l = rw (one-mul (2 ^ n)) e
+  top h k n (suc (suc m)) e l = absurd (omega arith)
+
+  same : Linear f → Linear g → (n : ℕ) → alike n ≡ true → (x : ℕ) → x < 2 ^ n → f x ≡ g x
+  unfolding alike
+  same h k zero t x l = let z : x ≡ 0 = omega arith in rw z (zero-stays f h ∙ sym (zero-stays g k))
+  same h k (suc n) t x l =
+      let high = x / 2 ^ n in
+      let low = x % 2 ^ n in
+      let apart : x ≡ bitXor (high * 2 ^ n) low = sym (xor-shifted high n low (mod-lt x (pow-pos n)) ∙ split x n) in
+      let e : f (2 ^ n) ≡ g (2 ^ n) = eqb-true (f (2 ^ n)) (g (2 ^ n)) (and-left (eqb (f (2 ^ n)) (g (2 ^ n))) (alike n) t) in
+      let l′ : x < 2 ^ (1 + n) = let one-more : suc n ≡ 1 + n = omega arith in subst (λ (m : ℕ). x < 2 ^ m) one-more l in
+      let here : f (high * 2 ^ n) ≡ g (high * 2 ^ n) = top h k n high e (shr-lt 1 n l′) in
+      let below : f low ≡ g low = same h k n (and-right (eqb (f (2 ^ n)) (g (2 ^ n))) (alike n) t) low (mod-lt x (pow-pos n)) in
+      ap f apart ∙ h .over (high * 2 ^ n) low ∙ ap₂ bitXor here below ∙ sym (k .over (high * 2 ^ n) low) ∙ sym (ap g apart)
+
+-- ---- sixteen shifts
+
+at-once-linear : Linear atOnce
+at-once-linear =
+    both itself (moved-up (2 * (16 - 12)))
+    then (both (both itself (moved-up (16 - 12))) (moved-up (16 - 5)))
+    then (both (both itself (moved-down 5)) (moved-down 12))
+
+pub sixteen : (x : ℕ) → x < 2 ^ 16 → atOnce x ≡ shiftedBy 16 x
+unfolding polynomial shifted shiftedBy alike
+sixteen x l = same atOnce (shiftedBy 16) at-once-linear (shifts-linear 16) 16 refl x l
+
+-- ---- a byte, and two: a byte that goes in later stands above the one before it
+
+pub byte-in : (c b r : ℕ) → r ≡ shiftedBy 16 (up 8 (bitXor c b)) → bitXor (bitXor c b / 2 ^ 8) r ≡ byteIn c b
+unfolding byteIn shiftedBy
+byte-in c b r e =
+    let x = bitXor c b in
+    let high = x / 2 ^ 8 in
+    let low = x % 2 ^ 8 in
+    let moved : up 8 x ≡ low * 2 ^ 8 = omega arith in
+    let apart : bitXor (high * 2 ^ 8) low ≡ x = xor-shifted high 8 low (omega arith) ∙ omega arith in
+    let shifts : r ≡ shiftedBy 8 low = e ∙ ap (shiftedBy 16) moved ∙ ap (shiftedBy 8) (high-shifts 8 low) in
+    ap₂ bitXor (sym (high-shifts 8 high)) shifts ∙ sym (shifts-linear 8 .over (high * 2 ^ 8) low) ∙ ap (shiftedBy 8) apart
+
+pub two-in : (c b₀ b₁ w r : ℕ) → b₀ < 2 ^ 8 → w ≡ lowFirst b₀ b₁ → r ≡ shiftedBy 16 (bitXor c w) → r ≡ byteIn (byteIn c b₀) b₁
+unfolding byteIn shiftedBy
+two-in c b₀ b₁ w r l e h =
+    let above : lowFirst b₀ b₁ ≡ bitXor b₀ (b₁ * 2 ^ 8) = sym (xor-comm b₀ (b₁ * 2 ^ 8) ∙ xor-shifted b₁ 8 b₀ l ∙ omega arith) in
+    h
+    ∙ ap (λ (x : ℕ). shiftedBy 16 (bitXor c x)) (e ∙ above)
+    ∙ ap (shiftedBy 16) (sym (xor-assoc c b₀ (b₁ * 2 ^ 8)))
+    ∙ ap (shiftedBy 8) (shifts-linear 8 .over (bitXor c b₀) (b₁ * 2 ^ 8) ∙ ap (bitXor (shiftedBy 8 (bitXor c b₀))) (high-shifts 8 b₁))
+
+-- ---- "The same CRC_A for every input"
+
+byte-same : (c b : ℕ) → byteAtOnce c b ≡ byteIn c b
+byte-same c b = let x = up 8 (bitXor c b) in byte-in c b (atOnce x) (sixteen x (mod-lt (bitXor c b * 2 ^ 8) (pow-pos 16)))
+
+-- the register stays one of sixteen bits
+shifts-lt : (k c : ℕ) → c < 2 ^ 16 → shiftedBy k c < 2 ^ 16
+unfolding polynomial shifted shiftedBy
+shifts-lt zero c l = l
+shifts-lt (suc k) c l = shifts-lt k (shifted c) (xor-lt 16 (c / 2) (c % 2 * polynomial) (omega arith) (omega arith))
+
+all-same : (c : ℕ) (bs : List ℕ) → c < 2 ^ 16 → Bytes bs → bytesAtOnce c bs ≡ bytesIn c bs
+unfolding bytesAtOnce bytesIn
+all-same c [] l h = refl
+all-same c (b ∷ []) l h = byte-same c b
+all-same c (b₀ ∷ b₁ ∷ bs) l h =
+    let x = bitXor c (lowFirst b₀ b₁) in
+    let k₀ : b₀ < 2 ^ 8 = h 0 in
+    let k₁ : b₁ < 2 ^ 8 = h 1 in
+    let x-lt : x < 2 ^ 16 = xor-lt 16 c (lowFirst b₀ b₁) l (omega arith) in
+    let next-lt : atOnce x < 2 ^ 16 = subst (λ (y : ℕ). y < 2 ^ 16) (sym (sixteen x x-lt)) (shifts-lt 16 x x-lt) in
+    all-same (atOnce x) bs next-lt (λ i. h (suc (suc i))) ∙ ap (λ (y : ℕ). bytesIn y bs) (two-in c b₀ b₁ (lowFirst b₀ b₁) (atOnce x) k₀ refl (sixteen x x-lt))
+
+pub same-crc-a : SameCrcA
+unfolding start crcA
+same-crc-a = record { byte = byte-same; bytes = all-same; crc = λ bs h. all-same start bs (omega arith) h }
