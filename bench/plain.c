@@ -45,7 +45,7 @@ static unsigned two_bytes(const uint8_t *low_first)
 
 /* ---- CRC_A: "polynomial x^16+x^12+x^5+1, reflected, start 6363h, low byte first" */
 
-/* Sixteen shifts of the register at once. */
+/* Sixteen shifts of the register at once, and thirty-two. */
 static unsigned sixteen_shifts(unsigned x)
 {
     x ^= x << 8;
@@ -53,12 +53,24 @@ static unsigned sixteen_shifts(unsigned x)
     return out ^ out >> 5 ^ out >> 12;
 }
 
+static unsigned thirty_two_shifts(uint32_t x)
+{
+    x ^= x << 16;
+    x ^= x << 8 ^ x << 22;
+    const uint32_t out = x ^ x << 4 ^ x << 11 ^ x << 16;
+    return (out >> 16 ^ out >> 21 ^ out >> 28) & 0xFFFF;
+}
+
 static unsigned crc_a(const uint8_t *data, size_t length)
 {
     unsigned crc = 0x6363;
-    for (; length >= 2; length -= 2, data += 2)
+    for (; length >= 4; length -= 4, data += 4)
+        crc = thirty_two_shifts(crc ^ two_bytes(data) ^ (uint32_t)two_bytes(data + 2) << 16);
+    if (length >= 2) {
         crc = sixteen_shifts(crc ^ two_bytes(data));
-    if (length == 1) {
+        data += 2;
+    }
+    if (length % 2 == 1) {
         crc ^= *data;
         crc = crc >> 8 ^ sixteen_shifts(crc << 8 & 0xFFFF);
     }

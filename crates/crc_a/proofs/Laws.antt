@@ -25,7 +25,7 @@ byte-turn : (bytes : List ℕ) (i register next : ℕ) → i < length bytes → 
 unfolding bytesIn
 byte-turn bytes i register next l h e = rw (e, add-one) (ap (bytesIn register) (sym (drop-cons bytes i 0 l)) ∙ h)
 
-pub two-turn : (bytes : List ℕ) (i register next : ℕ) → 2 ≤ length bytes - i → bytesIn register (drop i bytes) ≡ crcA bytes
+pub two-turn : (bytes : List ℕ) (i register next : ℕ) → i + 2 ≤ length bytes → bytesIn register (drop i bytes) ≡ crcA bytes
     → next ≡ byteIn (byteIn register (getD bytes i 0)) (getD bytes (i + 1) 0) → bytesIn next (drop (i + 2) bytes) ≡ crcA bytes
 two-turn bytes i register next l h e =
     let middle = byteIn register (getD bytes i 0) in
@@ -33,13 +33,49 @@ two-turn bytes i register next l h e =
     let two : i + 2 ≡ i + 1 + 1 = omega arith in
     ap (λ (k : ℕ). bytesIn next (drop k bytes)) two ∙ byte-turn bytes (i + 1) middle next (omega arith) once e
 
-pub byte-end : (bytes : List ℕ) (i register : ℕ) → length bytes ≤ i → bytesIn register (drop i bytes) ≡ crcA bytes → register ≡ crcA bytes
+pub four-turn : (bytes : List ℕ) (i register next : ℕ) → i + 4 ≤ length bytes → bytesIn register (drop i bytes) ≡ crcA bytes
+    → next ≡ byteIn (byteIn (byteIn (byteIn register (getD bytes i 0)) (getD bytes (i + 1) 0)) (getD bytes (i + 2) 0)) (getD bytes (i + 3) 0)
+    → bytesIn next (drop (i + 4) bytes) ≡ crcA bytes
+four-turn bytes i register next l h e =
+    let middle = byteIn (byteIn register (getD bytes i 0)) (getD bytes (i + 1) 0) in
+    let once : bytesIn middle (drop (i + 2) bytes) ≡ crcA bytes = two-turn bytes i register middle (omega arith) h refl in
+    let three : i + 3 ≡ i + 2 + 1 = omega arith in
+    let four : i + 4 ≡ i + 2 + 2 = omega arith in
+    let e′ : next ≡ byteIn (byteIn middle (getD bytes (i + 2) 0)) (getD bytes (i + 2 + 1) 0) = e ∙ ap (λ (k : ℕ). byteIn (byteIn middle (getD bytes (i + 2) 0)) (getD bytes k 0)) three in
+    ap (λ (k : ℕ). bytesIn next (drop k bytes)) four ∙ two-turn bytes (i + 2) middle next (omega arith) once e′
+
+byte-end : (bytes : List ℕ) (i register : ℕ) → length bytes ≤ i → bytesIn register (drop i bytes) ≡ crcA bytes → register ≡ crcA bytes
 unfolding bytesIn
 byte-end bytes i register l h = ap (bytesIn register) (sym (drop-of-length-le bytes l)) ∙ h
 
-pub last-byte : (bytes : List ℕ) (i register next : ℕ) → i < length bytes → length bytes - i < 2 → bytesIn register (drop i bytes) ≡ crcA bytes
-    → next ≡ byteIn register (getD bytes i 0) → next ≡ crcA bytes
-last-byte bytes i register next l m h e = byte-end bytes (i + 1) next (omega arith) (byte-turn bytes i register next l h e)
+-- ---- the last bytes, less than four: two where there are so many, and one where their number is odd
+
+module _ (bytes : List ℕ) (whole i register after : ℕ) (w : whole ≡ length bytes - length bytes % 4) (l : i ≤ whole) (k : whole ≤ i)
+    (h : bytesIn register (drop i bytes) ≡ crcA bytes) where
+  at-whole : i ≡ whole
+  at-whole = omega arith
+
+  pub two-more : (next : ℕ) → 2 ≤ length bytes % 4 → next ≡ byteIn (byteIn register (getD bytes whole 0)) (getD bytes (whole + 1) 0) → after ≡ next
+      → bytesIn after (drop (length bytes - length bytes % 2) bytes) ≡ crcA bytes
+  two-more next m e f =
+      let even : length bytes - length bytes % 2 ≡ whole + 2 = omega arith in
+      rw (f, even) (two-turn bytes whole register next (omega arith) (ap (λ (x : ℕ). bytesIn register (drop x bytes)) (sym at-whole) ∙ h) e)
+
+  pub none-more : length bytes % 4 < 2 → after ≡ register → bytesIn after (drop (length bytes - length bytes % 2) bytes) ≡ crcA bytes
+  none-more m f =
+      let even : length bytes - length bytes % 2 ≡ i = omega arith in
+      rw (f, even) h
+
+pub last-byte : (bytes : List ℕ) (register next : ℕ) → bytesIn register (drop (length bytes - length bytes % 2) bytes) ≡ crcA bytes → length bytes % 2 ≡ 1
+    → next ≡ byteIn register (getD bytes (length bytes - 1) 0) → next ≡ crcA bytes
+last-byte bytes register next h o e =
+    let i = length bytes - 1 in
+    let even : length bytes - length bytes % 2 ≡ i = omega arith in
+    byte-end bytes (i + 1) next (omega arith) (byte-turn bytes i register next (omega arith) (ap (λ (x : ℕ). bytesIn register (drop x bytes)) (sym even) ∙ h) e)
+
+pub no-byte : (bytes : List ℕ) (register : ℕ) → bytesIn register (drop (length bytes - length bytes % 2) bytes) ≡ crcA bytes → length bytes % 2 ≡ 0
+    → register ≡ crcA bytes
+no-byte bytes register h o = byte-end bytes (length bytes - length bytes % 2) register (omega arith) h
 
 -- ---- behind a buffer's bytes
 

@@ -4,18 +4,18 @@ use mathlib.Core.Path.{_≡_, refl, sym, ap, ap₂, subst, _∙_}
 use mathlib.Core.List.{List, [], _∷_}
 use mathlib.Core.Bool.{Bool, true, false, _&&_}
 use Prim.Native.Nat.{ℕ, zero, suc, _+_, _-_, _*_, _/_, _%_, _^_, _<_}
-use native.Mathlib.Nat.{zero-add, suc-add, mul-one, one-mul, zero-mul, mul-assoc, pow-suc, mod-lt, add-zero}
+use native.Mathlib.Nat.{lt-of-lt-of-le, add-zero, mul-one, one-mul, zero-mul, mul-assoc, pow-suc, mod-lt}
 use native.Mathlib.Omega.{arith}
 use lib.Arith.{bin-ind}
 use lib.Bits.{bitXor, differ, xor-step, xor-comm, xor-zero-r, xor-self, xor-shifted, xor-block, xor-shr, xor-mod, xor-lt}
 use lib.Dec.{eqb}
 use lib.ListN.{length, getD}
-use lib.Pow.{pow-pos, shr-lt, split}
+use lib.Pow.{pow-pos, pow-mono, shr-lt, split}
 use borrow.Author.Tests.{eqb-true}
 use Rattle.basics.proofs.Choice.{and-left, and-right}
 use Rattle.basics.specs.Bytes.{lowFirst}
 use Rattle.crc_a.specs.CrcA.{polynomial, start, shifted, shiftedBy, byteIn, bytesIn, crcA}
-use Rattle.crc_a.specs.Unrolled.{up, atOnce, byteAtOnce, twoAtOnce, bytesAtOnce, Bytes, SameCrcA}
+use Rattle.crc_a.specs.Unrolled.{up, atOnce16, atOnce32, byteAtOnce, twoAtOnce, bytesAtOnce, Bytes, SameCrcA}
 
 -- ---- exclusive-or, bit by bit
 
@@ -72,8 +72,8 @@ itself = record { over = λ a b. refl }
 scaled : (k a b : ℕ) → bitXor a b * 2 ^ k ≡ bitXor (a * 2 ^ k) (b * 2 ^ k)
 scaled k a b = let h = xor-block k a b 0 0 (pow-pos k) (pow-pos k) in sym (simp add-zero at h)
 
-moved-up : (k : ℕ) → Linear (up k)
-moved-up k = record { over = λ a b. ap (λ (x : ℕ). x % 2 ^ 16) (scaled k a b) ∙ xor-mod (a * 2 ^ k) (b * 2 ^ k) 16 }
+moved-up : (w k : ℕ) → Linear (up w k)
+moved-up w k = record { over = λ a b. ap (λ (x : ℕ). x % 2 ^ w) (scaled k a b) ∙ xor-mod (a * 2 ^ k) (b * 2 ^ k) w }
 
 moved-down : (k : ℕ) → Linear (λ (x : ℕ). x / 2 ^ k)
 moved-down k = record { over = λ a b. xor-shr a b k }
@@ -154,62 +154,108 @@ module _ (f g : ℕ → ℕ) where
       let below : f low ≡ g low = same h k n (and-right (eqb (f (2 ^ n)) (g (2 ^ n))) (alike n) t) low (mod-lt x (pow-pos n)) in
       ap f apart ∙ h .over (high * 2 ^ n) low ∙ ap₂ bitXor here below ∙ sym (k .over (high * 2 ^ n) low) ∙ sym (ap g apart)
 
--- ---- sixteen shifts
+-- ---- sixteen shifts, and thirty-two
 
-at-once-linear : Linear atOnce
-at-once-linear =
-    both itself (moved-up (2 * (16 - 12)))
-    then (both (both itself (moved-up (16 - 12))) (moved-up (16 - 5)))
+linear16 : Linear atOnce16
+linear16 =
+    both itself (moved-up 16 (2 * (16 - 12)))
+    then (both (both itself (moved-up 16 (16 - 12))) (moved-up 16 (16 - 5)))
     then (both (both itself (moved-down 5)) (moved-down 12))
 
-pub sixteen : (x : ℕ) → x < 2 ^ 16 → atOnce x ≡ shiftedBy 16 x
+linear32 : Linear atOnce32
+linear32 =
+    both itself (moved-up 32 (4 * (16 - 12)))
+    then (both (both itself (moved-up 32 (2 * (16 - 12)))) (moved-up 32 (2 * (16 - 5))))
+    then (both (both (both itself (moved-up 32 (16 - 12))) (moved-up 32 (16 - 5))) (moved-up 32 16))
+    then (both (both (moved-down 16) (moved-down (16 + 5))) (moved-down (16 + 12)))
+
+pub sixteen : (x : ℕ) → x < 2 ^ 16 → atOnce16 x ≡ shiftedBy 16 x
 unfolding polynomial shifted shiftedBy alike
-sixteen x l = same atOnce (shiftedBy 16) at-once-linear (shifts-linear 16) 16 refl x l
+sixteen = same atOnce16 (shiftedBy 16) linear16 (shifts-linear 16) 16 refl
 
--- ---- a byte, and two: a byte that goes in later stands above the one before it
+pub thirty-two : (x : ℕ) → x < 2 ^ 32 → atOnce32 x ≡ shiftedBy 32 x
+unfolding polynomial shifted shiftedBy alike
+thirty-two = same atOnce32 (shiftedBy 32) linear32 (shifts-linear 32) 32 refl
 
-pub byte-in : (c b r : ℕ) → r ≡ shiftedBy 16 (up 8 (bitXor c b)) → bitXor (bitXor c b / 2 ^ 8) r ≡ byteIn c b
+-- the register has sixteen bits again when those above them have moved down
+shifts-lt : (k x : ℕ) → x < 2 ^ (16 + k) → shiftedBy k x < 2 ^ 16
+unfolding polynomial shifted shiftedBy
+shifts-lt zero x l = l
+shifts-lt (suc k) x l =
+    let e : 16 + suc k ≡ 16 + k + 1 = omega arith in
+    let moved : x / 2 < 2 ^ (16 + k) = shr-lt (16 + k) 1 (subst (λ (m : ℕ). x < 2 ^ m) e l) in
+    let fed : x % 2 * polynomial < 2 ^ (16 + k) = lt-of-lt-of-le {m = 2 ^ 16} (omega arith) (pow-mono {i = 16} (omega arith)) in
+    shifts-lt k (shifted x) (xor-lt (16 + k) (x / 2) (x % 2 * polynomial) moved fed)
+
+pub thirty-two-lt : (x : ℕ) → x < 2 ^ 32 → atOnce32 x < 2 ^ 16
+thirty-two-lt x l = subst (λ (y : ℕ). y < 2 ^ 16) (sym (thirty-two x l)) (shifts-lt 32 x (omega arith))
+
+-- ---- bytes that go in one after the other go in together, the later ones above the earlier
+
+pub byte-in : (c b r : ℕ) → r ≡ shiftedBy 16 (up 16 8 (bitXor c b)) → bitXor (bitXor c b / 2 ^ 8) r ≡ byteIn c b
 unfolding byteIn shiftedBy
 byte-in c b r e =
     let x = bitXor c b in
     let high = x / 2 ^ 8 in
     let low = x % 2 ^ 8 in
-    let moved : up 8 x ≡ low * 2 ^ 8 = omega arith in
+    let moved : up 16 8 x ≡ low * 2 ^ 8 = omega arith in
     let apart : bitXor (high * 2 ^ 8) low ≡ x = xor-shifted high 8 low (omega arith) ∙ omega arith in
     let shifts : r ≡ shiftedBy 8 low = e ∙ ap (shiftedBy 16) moved ∙ ap (shiftedBy 8) (high-shifts 8 low) in
     ap₂ bitXor (sym (high-shifts 8 high)) shifts ∙ sym (shifts-linear 8 .over (high * 2 ^ 8) low) ∙ ap (shiftedBy 8) apart
 
+-- a byte before a row
+before : (c b row : ℕ) → b < 2 ^ 8 → bitXor (byteIn c b) row ≡ shiftedBy 8 (bitXor c (lowFirst b row))
+unfolding byteIn
+before c b row l =
+    let above : bitXor b (row * 2 ^ 8) ≡ lowFirst b row = xor-comm b (row * 2 ^ 8) ∙ xor-shifted row 8 b l ∙ omega arith in
+    ap (bitXor (byteIn c b)) (sym (high-shifts 8 row))
+    ∙ sym (shifts-linear 8 .over (bitXor c b) (row * 2 ^ 8))
+    ∙ ap (shiftedBy 8) (xor-assoc c b (row * 2 ^ 8) ∙ ap (bitXor c) above)
+
 pub two-in : (c b₀ b₁ w r : ℕ) → b₀ < 2 ^ 8 → w ≡ lowFirst b₀ b₁ → r ≡ shiftedBy 16 (bitXor c w) → r ≡ byteIn (byteIn c b₀) b₁
 unfolding byteIn shiftedBy
-two-in c b₀ b₁ w r l e h =
-    let above : lowFirst b₀ b₁ ≡ bitXor b₀ (b₁ * 2 ^ 8) = sym (xor-comm b₀ (b₁ * 2 ^ 8) ∙ xor-shifted b₁ 8 b₀ l ∙ omega arith) in
+two-in c b₀ b₁ w r l e h = h ∙ ap (λ (x : ℕ). shiftedBy 16 (bitXor c x)) e ∙ ap (shiftedBy 8) (sym (before c b₀ b₁ l))
+
+pub four-in : (c b₀ b₁ b₂ b₃ low high r : ℕ) → b₀ < 2 ^ 8 → b₁ < 2 ^ 8 → b₂ < 2 ^ 8 → low ≡ lowFirst b₀ b₁ → high ≡ lowFirst b₂ b₃
+    → r ≡ shiftedBy 32 (bitXor c (low + 65536 * high)) → r ≡ byteIn (byteIn (byteIn (byteIn c b₀) b₁) b₂) b₃
+unfolding byteIn shiftedBy
+four-in c b₀ b₁ b₂ b₃ low high r l₀ l₁ l₂ e f h =
+    let row₂ = lowFirst b₂ b₃ in
+    let row₁ = lowFirst b₁ row₂ in
+    let row : low + 65536 * high ≡ lowFirst b₀ row₁ = omega arith in
     h
-    ∙ ap (λ (x : ℕ). shiftedBy 16 (bitXor c x)) (e ∙ above)
-    ∙ ap (shiftedBy 16) (sym (xor-assoc c b₀ (b₁ * 2 ^ 8)))
-    ∙ ap (shiftedBy 8) (shifts-linear 8 .over (bitXor c b₀) (b₁ * 2 ^ 8) ∙ ap (bitXor (shiftedBy 8 (bitXor c b₀))) (high-shifts 8 b₁))
+    ∙ ap (λ (x : ℕ). shiftedBy 32 (bitXor c x)) row
+    ∙ ap (shiftedBy 24) (sym (before c b₀ row₁ l₀))
+    ∙ ap (shiftedBy 16) (sym (before (byteIn c b₀) b₁ row₂ l₁))
+    ∙ ap (shiftedBy 8) (sym (before (byteIn (byteIn c b₀) b₁) b₂ b₃ l₂))
 
 -- ---- "The same CRC_A for every input"
 
 byte-same : (c b : ℕ) → byteAtOnce c b ≡ byteIn c b
-byte-same c b = let x = up 8 (bitXor c b) in byte-in c b (atOnce x) (sixteen x (mod-lt (bitXor c b * 2 ^ 8) (pow-pos 16)))
+byte-same c b = let x = up 16 8 (bitXor c b) in byte-in c b (atOnce16 x) (sixteen x (mod-lt (bitXor c b * 2 ^ 8) (pow-pos 16)))
 
--- the register stays one of sixteen bits
-shifts-lt : (k c : ℕ) → c < 2 ^ 16 → shiftedBy k c < 2 ^ 16
-unfolding polynomial shifted shiftedBy
-shifts-lt zero c l = l
-shifts-lt (suc k) c l = shifts-lt k (shifted c) (xor-lt 16 (c / 2) (c % 2 * polynomial) (omega arith) (omega arith))
+two-same : (c b₀ b₁ : ℕ) → c < 2 ^ 16 → b₀ < 2 ^ 8 → b₁ < 2 ^ 8 → twoAtOnce c b₀ b₁ ≡ byteIn (byteIn c b₀) b₁
+two-same c b₀ b₁ l l₀ l₁ =
+    let w = lowFirst b₀ b₁ in
+    two-in c b₀ b₁ w (twoAtOnce c b₀ b₁) l₀ refl (sixteen (bitXor c w) (xor-lt 16 c w l (omega arith)))
 
 all-same : (c : ℕ) (bs : List ℕ) → c < 2 ^ 16 → Bytes bs → bytesAtOnce c bs ≡ bytesIn c bs
 unfolding bytesAtOnce bytesIn
 all-same c [] l h = refl
 all-same c (b ∷ []) l h = byte-same c b
-all-same c (b₀ ∷ b₁ ∷ bs) l h =
-    let x = bitXor c (lowFirst b₀ b₁) in
-    let k₀ : b₀ < 2 ^ 8 = h 0 in
-    let k₁ : b₁ < 2 ^ 8 = h 1 in
-    let x-lt : x < 2 ^ 16 = xor-lt 16 c (lowFirst b₀ b₁) l (omega arith) in
-    let next-lt : atOnce x < 2 ^ 16 = subst (λ (y : ℕ). y < 2 ^ 16) (sym (sixteen x x-lt)) (shifts-lt 16 x x-lt) in
-    all-same (atOnce x) bs next-lt (λ i. h (suc (suc i))) ∙ ap (λ (y : ℕ). bytesIn y bs) (two-in c b₀ b₁ (lowFirst b₀ b₁) (atOnce x) k₀ refl (sixteen x x-lt))
+all-same c (b₀ ∷ b₁ ∷ []) l h = two-same c b₀ b₁ l (h 0) (h 1)
+all-same c (b₀ ∷ b₁ ∷ b₂ ∷ []) l h = byte-same (twoAtOnce c b₀ b₁) b₂ ∙ ap (λ (x : ℕ). byteIn x b₂) (two-same c b₀ b₁ l (h 0) (h 1))
+all-same c (b₀ ∷ b₁ ∷ b₂ ∷ b₃ ∷ bs) l h =
+    let low = lowFirst b₀ b₁ in
+    let high = lowFirst b₂ b₃ in
+    let x = bitXor c (low + 65536 * high) in
+    let l₀ : b₀ < 2 ^ 8 = h 0 in
+    let l₁ : b₁ < 2 ^ 8 = h 1 in
+    let l₂ : b₂ < 2 ^ 8 = h 2 in
+    let l₃ : b₃ < 2 ^ 8 = h 3 in
+    let x-lt : x < 2 ^ 32 = xor-lt 32 c (low + 65536 * high) (omega arith) (omega arith) in
+    all-same (atOnce32 x) bs (thirty-two-lt x x-lt) (λ i. h (suc (suc (suc (suc i)))))
+    ∙ ap (λ (y : ℕ). bytesIn y bs) (four-in c b₀ b₁ b₂ b₃ low high (atOnce32 x) l₀ l₁ l₂ refl refl (thirty-two x x-lt))
 
 pub same-crc-a : SameCrcA
 unfolding start crcA

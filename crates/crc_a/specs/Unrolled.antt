@@ -3,43 +3,59 @@
 -- that it comes to the shifts of CrcA. Assumes nothing.
 use mathlib.Core.Path.{_≡_}
 use mathlib.Core.List.{List, [], _∷_}
-use Prim.Native.Nat.{ℕ, _-_, _*_, _/_, _%_, _^_, _<_}
+use Prim.Native.Nat.{ℕ, _+_, _-_, _*_, _/_, _%_, _^_, _<_}
 use lib.Bits.{bitXor}
 use lib.ListN.{getD}
 use Rattle.basics.specs.Bytes.{lowFirst}
 use Rattle.crc_a.specs.CrcA.{start, byteIn, bytesIn, crcA}
 
--- a row of sixteen bits, moved up by k places: what passes its top is lost
-abbrev pub up : ℕ → ℕ → ℕ
-up k x = x * 2 ^ k % 2 ^ 16
+-- a row of w bits, moved up by k places: what passes its top is lost
+abbrev pub up : ℕ → ℕ → ℕ → ℕ
+up w k x = x * 2 ^ k % 2 ^ w
 
--- What sixteen shifts let out of the register, the first of them at place 0. For a 1 that is let out the polynomial's terms x^12, x^5 and 1 go in, at
--- places 15-12, 15-5 and 15, and are let out 16-12, 16-5 and 16 shifts later: out = x + up (16-12) out + up (16-5) out, without carries. So f out = x
--- for f y = y + up (16-12) y + up (16-5) y. Twice f is y + up (2*(16-12)) y, since equal terms cancel and the last passes the top; four times f is y,
--- for the same reasons. So out = f (f (f x)).
-abbrev pub letOut : ℕ → ℕ
-letOut x =
-    let a = bitXor x (up (2 * (16 - 12)) x) in
-    bitXor (bitXor a (up (16 - 12) a)) (up (16 - 5) a)
+-- What so many shifts let out of the register, the first of them at place 0. For a 1 that is let out the polynomial's terms x^12, x^5 and 1 go in, at
+-- places 15-12, 15-5 and 15, and are let out 16-12, 16-5 and 16 shifts later. So x = f out, where f y = y + up (16-12) y + up (16-5) y + up 16 y, without
+-- carries. Twice f moves by twice as many places, since equal terms cancel; four times f is y in a row of 16 bits, and eight times f in one of 32,
+-- since all terms but y have passed the top. So out = f (f² x) in the one, and out = f (f² (f⁴ x)) in the other.
+abbrev pub letOut16 : ℕ → ℕ
+letOut16 x =
+    let a = bitXor x (up 16 (2 * (16 - 12)) x) in
+    bitXor (bitXor a (up 16 (16 - 12) a)) (up 16 (16 - 5) a)
+
+abbrev pub letOut32 : ℕ → ℕ
+letOut32 x =
+    let a = bitXor x (up 32 (4 * (16 - 12)) x) in
+    let b = bitXor (bitXor a (up 32 (2 * (16 - 12)) a)) (up 32 (2 * (16 - 5)) a) in
+    bitXor (bitXor (bitXor b (up 32 (16 - 12) b)) (up 32 (16 - 5) b)) (up 32 16 b)
 
 -- what stands in the register then: of the terms that went in, what was not let out again
-abbrev pub atOnce : ℕ → ℕ
-atOnce x =
-    let out = letOut x in
+abbrev pub atOnce16 : ℕ → ℕ
+atOnce16 x =
+    let out = letOut16 x in
     bitXor (bitXor out (out / 2 ^ 5)) (out / 2 ^ 12)
+
+abbrev pub atOnce32 : ℕ → ℕ
+atOnce32 x =
+    let out = letOut32 x in
+    bitXor (bitXor (out / 2 ^ 16) (out / 2 ^ (16 + 5))) (out / 2 ^ (16 + 12))
 
 -- "unroll the shifts by the byte": the high byte moves down, and the low one is let out
 abbrev pub byteAtOnce : ℕ → ℕ → ℕ
 byteAtOnce c b =
     let x = bitXor c b in
-    bitXor (x / 2 ^ 8) (atOnce (up 8 x))
+    bitXor (x / 2 ^ 8) (atOnce16 (up 16 8 x))
 
--- and by two bytes, where there are two
+-- and by two bytes and four, where there are so many
 abbrev pub twoAtOnce : ℕ → ℕ → ℕ → ℕ
-twoAtOnce c b₀ b₁ = atOnce (bitXor c (lowFirst b₀ b₁))
+twoAtOnce c b₀ b₁ = atOnce16 (bitXor c (lowFirst b₀ b₁))
+
+abbrev pub fourAtOnce : ℕ → ℕ → ℕ → ℕ → ℕ → ℕ
+fourAtOnce c b₀ b₁ b₂ b₃ = atOnce32 (bitXor c (lowFirst b₀ b₁ + 65536 * lowFirst b₂ b₃))
 
 unfoldable pub bytesAtOnce : ℕ → List ℕ → ℕ
-bytesAtOnce c (b₀ ∷ b₁ ∷ bs) = bytesAtOnce (twoAtOnce c b₀ b₁) bs
+bytesAtOnce c (b₀ ∷ b₁ ∷ b₂ ∷ b₃ ∷ bs) = bytesAtOnce (fourAtOnce c b₀ b₁ b₂ b₃) bs
+bytesAtOnce c (b₀ ∷ b₁ ∷ b₂ ∷ []) = byteAtOnce (twoAtOnce c b₀ b₁) b₂
+bytesAtOnce c (b₀ ∷ b₁ ∷ []) = twoAtOnce c b₀ b₁
 bytesAtOnce c (b ∷ []) = byteAtOnce c b
 bytesAtOnce c [] = c
 

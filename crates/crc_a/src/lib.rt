@@ -15,6 +15,16 @@ fn sixteen_shifts(x: u16) -> u16
     out ^ (out >> 5) ^ (out >> 12)
 }
 
+// Thirty-two shifts at once, of a register with four bytes in it. Here the polynomial may also have put the bit in 16 shifts before.
+fn thirty_two_shifts(x: u32) -> u16
+    ensures { λ r. ⌜ r ≡ shiftedBy 32 x ⌝ }
+{
+    let a = x ^ (x << 16);
+    let b = a ^ (a << 8) ^ (a << 22);
+    let out = b ^ (b << 4) ^ (b << 11) ^ (b << 16);
+    ((out >> 16) ^ (out >> 21) ^ (out >> 28)) as u16
+}
+
 // A byte goes into the register: its eight shifts at once.
 fn take_byte(c: u16, b: u8) -> u16
     ensures { λ r. ⌜ r ≡ byteIn c b ⌝ }
@@ -23,11 +33,18 @@ fn take_byte(c: u16, b: u8) -> u16
     (x >> 8) ^ sixteen_shifts(x << 8)
 }
 
-// Two bytes go in.
 fn take_two(c: u16, b0: u8, b1: u8) -> u16
     ensures { λ r. ⌜ r ≡ byteIn (byteIn c b0) b1 ⌝ }
 {
     sixteen_shifts(c ^ low_first(b0, b1))
+}
+
+fn take_four(c: u16, b0: u8, b1: u8, b2: u8, b3: u8) -> u16
+    ensures { λ r. ⌜ r ≡ byteIn (byteIn (byteIn (byteIn c b0) b1) b2) b3 ⌝ }
+{
+    let low = low_first(b0, b1) as u32;
+    let high = low_first(b2, b3) as u32;
+    thirty_two_shifts(c as u32 ^ (low + 65536 * high))
 }
 
 // The CRC_A of all the bytes. As sent, its low byte goes first.
@@ -35,14 +52,18 @@ pub fn crc_a(bytes: &[u8]) -> u16
     ensures { λ r. ⌜ r ≡ crcA (now (bytes .entry)) ⌝ }
 {
     let n = bytes.len();
+    let whole = n - n % 4;
     let mut register: u16 = 0x6363;
     let mut i = 0;
-    while n - i >= 2 {
-        register = take_two(register, bytes[i], bytes[i + 1]);
-        i += 2;
+    while i < whole {
+        register = take_four(register, bytes[i], bytes[i + 1], bytes[i + 2], bytes[i + 3]);
+        i += 4;
     }
-    if i < n {
-        take_byte(register, bytes[i])
+    if n % 4 >= 2 {
+        register = take_two(register, bytes[whole], bytes[whole + 1]);
+    }
+    if n % 2 == 1 {
+        take_byte(register, bytes[n - 1])
     } else {
         register
     }
