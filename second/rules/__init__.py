@@ -12,5 +12,8 @@ stood, the line, the answer, how it stands then. The tag knows nothing of it.
     corridor    the book of `corridor`, of the groups that are named as its parts
     step        its steps
     mirror      what the mirror's settings ask for, for the groups that begin with its name
+    crc, crc_checks
+                the register of CRC_A, and checks that aren't CRC_A, for the groups that begin
+                with its name
     workshop    the book of `workshop`, with groups and steps of its own
 """

@@ -1,9 +1,10 @@
 """The rules of `corridor`."""
 
 from lines.reading import TABLE
-from rules import (active, bad_lines, both_sides, bus, counter, entered_by_read, lines, locks, memory,
-                   memory_lines, mirror_places, mirror_reads, mirror_stored, mirror_text, password, reads,
-                   reads_at_once, ready_commands, records, refusals, returns, selection, waiting, writes)
+from rules import (active, bad_lines, both_sides, bus, counter, crc_answers, crc_frames, crc_parts, crc_ready,
+                   entered_by_read, lines, locks, memory, memory_lines, mirror_places, mirror_reads,
+                   mirror_stored, mirror_text, password, reads, reads_at_once, ready_commands, records,
+                   refusals, returns, selection, waiting, writes)
 from rules.book import Group, RuleBook
 from rules.step import Watched
 
@@ -30,6 +31,11 @@ GROUPS = [
     Group("Q-3: reads of the mirror", mirror_reads.RULES, mirror_reads.met),
     Group("Q-3: the mirror's characters", mirror_text.RULES, mirror_text.met),
     Group("Q-3: the bytes under the mirror, its settings", mirror_stored.RULES, mirror_stored.met),
+    Group("Q-4: the check sum of frames", crc_frames.RIGHT_RULES, crc_frames.met),
+    Group("Q-4: frames with another check", crc_frames.WRONG_RULES, crc_frames.met),
+    Group("Q-4: frames with a byte less or more", crc_parts.RULES, crc_parts.met),
+    Group("Q-4: frames with another check in READY1, READY2", crc_ready.RULES, crc_ready.met),
+    Group("Q-4: the check sum of answers", crc_answers.RULES, crc_answers.met),
     Group("PWD_AUTH", password.RULES, password.met),
     Group("WRITE", writes.RULES, writes.met),
     Group("Static locks", locks.STATIC_RULES, locks.met),

@@ -49,16 +49,23 @@ def any_whole_memory(s):
 
 
 def first_reads(s):
-    """Each kind of READ as the first in a field: it counts, and none behind it."""
+    """Each kind of READ as the first in a field, of pages under password among them."""
     s.image(45)
     s.reads_on_entry = False
     for first in ([0x30, 4], [0x30, 43], [0x3A, 4, 4], [0x3A, 4, 6], [0x3A, 40, 43]):
-        s.say("field")
-        s.active()
-        for read in (first, [0x30, 4], [0x3A, 4, 4]):
-            s.command(*read)
-            s.command(0x39, 0x02)
+        first_in_field(s, first)
+    for first in ([0x30, 43], [0x3A, 44, 44], [0x3A, 40, 44]):
+        first_in_field(s, first, authenticated=True)
     s.reads_on_entry = True
+
+
+def first_in_field(s, first, authenticated=False):
+    """A READ that is the first in a field: it counts, and none behind it."""
+    s.say("field")
+    s.active(authenticated)
+    for read in (first, [0x30, 4], [0x3A, 4, 4]):
+        s.command(*read)
+        s.command(0x39, 0x02)
 
 
 def counting(s, size, value, under_password):

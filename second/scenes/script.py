@@ -100,6 +100,7 @@ class Script(Text, RadioLines, BusLines, MemoryLines):
         wishes.setdefault("counter", dice.below(2 ** 20))
         wishes.setdefault("uid", dice.bytes(7))
         wishes.setdefault("mirror", plausible_mirror(self, size) if dice.one_in(4) else mirror_bytes())
-        self.raw_image(build_image(size, user=lambda page: dice.four(), **wishes))
+        wishes.setdefault("user", lambda page: dice.four())
+        self.raw_image(build_image(size, **wishes))
         self.usual_buffer()
         self.usual_memory()

@@ -6,18 +6,19 @@ fresh script draws from, `OF_ANY_KIND`, `OF_ANY_SIZE`, and `RARE`, which are lon
 """
 
 from rules.naming import SIZES
-from scenes import (active, both_sides, bus, chunks, entered_by_read, lines, locks, memory, memory_lines,
-                    mirror_places, mirror_reads, mirror_stored, mirror_text, password, reads, reads_at_once,
-                    ready_commands, records, refusals, returns, selection, waiting, writes)
+from scenes import (active, both_sides, bus, chunks, crc_answers, crc_frames, crc_ready, entered_by_read, lines,
+                    locks, memory, memory_lines, mirror_places, mirror_reads, mirror_stored, mirror_text, password,
+                    reads, reads_at_once, ready_commands, records, refusals, returns, selection, waiting, writes)
 from scenes.chunks import many_turns
 from scenes.examples import example_lines
 from scenes.refusals import before_any_image
 from scenes.script import Script
 from scenes.walks import any_walk
 
-PARTS = [lines, refusals, waiting, selection, active, reads, writes, locks, password, bus, both_sides, memory,
-         memory_lines, chunks, records, returns, reads_at_once, ready_commands, entered_by_read, mirror_places,
-         mirror_reads, mirror_text, mirror_stored]
+# The check sum comes first, for a program that has it wrong is wrong everywhere.
+PARTS = [crc_frames, crc_answers, crc_ready, lines, refusals, waiting, selection, active, reads, writes, locks,
+         password, bus, both_sides, memory, memory_lines, chunks, records, returns, reads_at_once, ready_commands,
+         entered_by_read, mirror_places, mirror_reads, mirror_text, mirror_stored]
 STORED_WALKS = 30
 
 

@@ -2,11 +2,11 @@
 
 Document 01 ("Build specification and rules: the corridor tag") decides what
 the tag does, and document 02 ("Requests from the schools' year") amends it:
-so far Q-1, Q-2 and Q-3. Sentences in quotation marks are taken from them. This second
-opinion leans on nothing but these documents: bits are lists of 0 and 1 with the
-least significant first, pages are four bytes each, and locks are sets of page
-numbers. What is kept from call to call is plain values, replaced and never
-changed in place.
+so far Q-1, Q-2 and Q-3, and Q-4, which changes no answer. Sentences in quotation
+marks are taken from them. This second opinion leans on nothing but these
+documents: bits are lists of 0 and 1 with the least significant first, pages are
+four bytes each, and locks are sets of page numbers. What is kept from call to
+call is plain values, replaced and never changed in place.
 
     calls       the whole tag: its three calls, with the five refusals
     refusal     what a refused call gives

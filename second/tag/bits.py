@@ -19,6 +19,8 @@ def crc_a(bits):
 
     "CRC_A: polynomial x^16+x^12+x^5+1, reflected, start 6363h, low byte
     first". Reflected, the terms 1, x^5 and x^12 stand at places 15, 10 and 3.
+    Document 02, Q-4, wants "The same CRC_A for every input": here the bits go in one
+    by one, as they always did.
     """
     register = bits_of([0x63, 0x63])
     for bit in bits:

@@ -6,6 +6,10 @@ the text that takes its place. Those of `workshop` are in the package of that na
 """
 
 from lines.reading import LONGEST_LINE
+from wrong.by_hand_crc import OF_CRC
+from wrong.by_hand_crc_answers import OF_CRC_ANSWERS
+from wrong.by_hand_crc_judged import OF_CRC_JUDGED
+from wrong.by_hand_crc_lengths import OF_CRC_LENGTHS
 from wrong.by_hand_lines import of_lines
 from wrong.by_hand_memory import OF_MEMORY, OF_MEMORY_LINES
 from wrong.by_hand_mirror import OF_MIRROR
@@ -51,6 +55,10 @@ BY_HAND = {
         "tag.reads", "radio.read_answered = True", "radio.read_answered |= radio.image.counter_on()"),
     **OF_MIRROR,
     **OF_MIRROR_SHOWN,
+    **OF_CRC,
+    **OF_CRC_LENGTHS,
+    **OF_CRC_JUDGED,
+    **OF_CRC_ANSWERS,
     "the new block bits are tested": (
         "tag.locks", "if old[block]\n", "if old[block] or new[block]\n"),
     "WRITE is under password only with PROT": (

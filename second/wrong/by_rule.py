@@ -4,6 +4,8 @@ from array import array
 
 from rules.both_sides import RULES as BOTH_SIDES
 from rules.corridor import BOOK
+from rules.crc_answers import RULES as CRC_OF_ANSWERS
+from rules.crc_frames import RIGHT_RULES as CRC_OF_FRAMES
 from rules.lines import RULES as LINE_RULES
 from rules.step import Watched
 from state import put_state, state_of
@@ -29,8 +31,11 @@ def twists_of(step, key):
     """The twists that are sensible for a step and a rule: those of its side.
 
     Where the rule is one of how lines are written, the line can only be left
-    out as a whole.
+    out as a whole. Where it is one of the bytes that a check sum is taken of, nothing
+    that is kept hangs on it, and the answer alone can be another.
     """
+    if key in CRC_OF_FRAMES or key in CRC_OF_ANSWERS:
+        return {}
     on_radio = step.word in ("frame", "parity")
     on_bus = step.word in ("start", "stop", "send", "read", "event")
     if key.startswith(("form.", "limit/", "return.at-end/")) or key in LINE_RULES and (on_radio or on_bus):
