@@ -61,7 +61,7 @@ static unsigned thirty_two_shifts(uint32_t x)
     return (out >> 16 ^ out >> 21 ^ out >> 28) & 0xFFFF;
 }
 
-static unsigned crc_a(const uint8_t *data, size_t length)
+unsigned plain_crc_a(const uint8_t *data, size_t length)
 {
     unsigned crc = 0x6363;
     for (; length >= 4; length -= 4, data += 4)
@@ -80,13 +80,13 @@ static unsigned crc_a(const uint8_t *data, size_t length)
 /* Whether the last two bytes are the CRC_A of those before them. */
 static bool crc_good(const uint8_t *frame, size_t length)
 {
-    return crc_a(frame, length - 2) == two_bytes(frame + length - 2);
+    return plain_crc_a(frame, length - 2) == two_bytes(frame + length - 2);
 }
 
 /* Puts the CRC_A behind an answer of so many bytes. */
 static size_t with_crc(uint8_t *answer, size_t length)
 {
-    const unsigned crc = crc_a(answer, length);
+    const unsigned crc = plain_crc_a(answer, length);
     answer[length] = (uint8_t)crc;
     answer[length + 1] = (uint8_t)(crc >> 8);
     return 8 * (length + 2);

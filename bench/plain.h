@@ -25,6 +25,9 @@ corridor_bus_answer plain_bus_event(corridor_bus_record *held, uint8_t *image, s
 
 corridor_screen_answer plain_screen(const uint8_t *image, size_t image_length, uint32_t present);
 
+/* The CRC_A of these bytes, which no call of corridor_tag.h gives. */
+unsigned plain_crc_a(const uint8_t *data, size_t length);
+
 uint8_t plain_write_reading(uint8_t *area, size_t area_length, uint32_t second, uint32_t watts);
 
 #ifdef __cplusplus

@@ -25,7 +25,7 @@ byte-turn : (bytes : List ℕ) (i register next : ℕ) → i < length bytes → 
 unfolding bytesIn
 byte-turn bytes i register next l h e = rw (e, add-one) (ap (bytesIn register) (sym (drop-cons bytes i 0 l)) ∙ h)
 
-pub two-turn : (bytes : List ℕ) (i register next : ℕ) → i + 2 ≤ length bytes → bytesIn register (drop i bytes) ≡ crcA bytes
+two-turn : (bytes : List ℕ) (i register next : ℕ) → i + 2 ≤ length bytes → bytesIn register (drop i bytes) ≡ crcA bytes
     → next ≡ byteIn (byteIn register (getD bytes i 0)) (getD bytes (i + 1) 0) → bytesIn next (drop (i + 2) bytes) ≡ crcA bytes
 two-turn bytes i register next l h e =
     let middle = byteIn register (getD bytes i 0) in
