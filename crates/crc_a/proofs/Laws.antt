@@ -1,4 +1,4 @@
--- Laws of CRC_A: the standard's examples, the turns and the end of its loop, and that bytes with their CRC_A behind them are right.
+-- Laws of CRC_A: the standard's examples, the turns of its loop and the bytes behind it, and that bytes with their CRC_A behind them are right.
 -- Assumes nothing.
 use mathlib.Core.Path.{_≡_, refl, sym, ap, _∙_}
 use mathlib.Core.List.{List, [], _∷_, _++_}

@@ -6,7 +6,7 @@ ghost use lib.ListN.{length, take};
 ghost use lib.Seq.{sets};
 ghost use Rattle.crc_a.specs.CrcA.{shiftedBy, byteIn, crcA, sent, crcRight};
 
-// Sixteen shifts of the register at once. Bit k of `out` is what shift k lets out: it stood in x, or the polynomial put it in, 4 or 11 shifts before.
+// Sixteen shifts of the register at once. Bit k of `out` is what shift k lets out: that of x, turned for each 1 that was let out 4 and 11 shifts before.
 fn sixteen_shifts(x: u16) -> u16
     ensures { λ r. ⌜ r ≡ shiftedBy 16 x ⌝ }
 {
@@ -15,7 +15,7 @@ fn sixteen_shifts(x: u16) -> u16
     out ^ (out >> 5) ^ (out >> 12)
 }
 
-// Thirty-two shifts at once, of a register with four bytes in it. Here the polynomial may also have put the bit in 16 shifts before.
+// Thirty-two shifts at once, with four bytes in the register. Here a 1 that was let out 16 shifts before turns a bit as well.
 fn thirty_two_shifts(x: u32) -> u16
     ensures { λ r. ⌜ r ≡ shiftedBy 32 x ⌝ }
 {
@@ -33,12 +33,14 @@ fn take_byte(c: u16, b: u8) -> u16
     (x >> 8) ^ sixteen_shifts(x << 8)
 }
 
+// Two bytes go in, the first in the low half.
 fn take_two(c: u16, b0: u8, b1: u8) -> u16
     ensures { λ r. ⌜ r ≡ byteIn (byteIn c b0) b1 ⌝ }
 {
     sixteen_shifts(c ^ low_first(b0, b1))
 }
 
+// Four bytes go in, the last two above the register.
 fn take_four(c: u16, b0: u8, b1: u8, b2: u8, b3: u8) -> u16
     ensures { λ r. ⌜ r ≡ byteIn (byteIn (byteIn (byteIn c b0) b1) b2) b3 ⌝ }
 {
