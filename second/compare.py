@@ -8,6 +8,7 @@ from programs import PROGRAMS
 
 PIECE_LINES = 4000
 DIFFERENCES_PRINTED = 5
+UNREACHED_PRINTED = 8
 END = b"(end of the script)"
 
 
@@ -91,6 +92,13 @@ def compare_long(name, path, lines_wished, seed, jobs):
         print(file=sys.stderr)
     unreached = rules.never_reached(total)
     print(f"{lines} lines sent, {answers} answers compared, {differences} differing")
-    print(f"{len(total) - len(unreached)} of {len(total)} rules reached"
-          + (f"; never: {', '.join(unreached)}" if unreached else ""))
+    print(f"{len(total) - len(unreached)} of {len(total)} rules reached{without(unreached)}")
     return differences == 0
+
+
+def without(unreached):
+    """The first of the rules that were never reached, and how many more there are."""
+    if not unreached:
+        return ""
+    more = len(unreached) - UNREACHED_PRINTED
+    return f"; never: {', '.join(unreached[:UNREACHED_PRINTED])}" + (f" and {more} more" if more > 0 else "")
