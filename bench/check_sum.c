@@ -1,5 +1,6 @@
 /* Takes the CRC_A of 16 bytes and of 510 once by the library's function and once by the plain one, between two marks, as count.c makes its calls. */
 #include "host.h"
+#include "marks.h"
 #include "plain.h"
 
 /* A slice is lent by where its start and its length stand. What is above the sixteen bits of the sum is left open. */
@@ -8,11 +9,6 @@ struct lent {
     uint64_t length;
 };
 unsigned proved_crc_a(const struct lent *lent) __asm__("crc_a::crc_a");
-
-#define MARK(name) \
-    __attribute__((noinline)) void name(void) { __asm__ volatile(""); }
-MARK(count_begin)
-MARK(count_end)
 
 int program(void) {
     static const size_t lengths[] = {16, 510};

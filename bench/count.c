@@ -1,11 +1,7 @@
 /* Makes each kind of call once on both tags, between two marks: the emulator's trace has the instructions. Of each kind the proved tag comes first. */
 #include "host.h"
 #include "kinds.h"
-
-#define MARK(name) \
-    __attribute__((noinline)) void name(void) { __asm__ volatile(""); }
-MARK(count_begin)
-MARK(count_end)
+#include "marks.h"
 
 int program(void) {
     static struct kind kinds[KINDS];

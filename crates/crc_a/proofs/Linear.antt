@@ -30,15 +30,8 @@ differ-assoc (suc zero) (suc zero) (suc (suc z)) h k l = absurd (omega arith)
 differ-assoc (suc zero) (suc (suc y)) z h k l = absurd (omega arith)
 differ-assoc (suc (suc x)) y z h k l = absurd (omega arith)
 
-module _ (a b : ℕ) where
-  low-lt : differ (a % 2) (b % 2) < 2
-  low-lt = differ-lt (a % 2) (b % 2) (omega arith) (omega arith)
-
-  half : bitXor a b / 2 ≡ bitXor (a / 2) (b / 2)
-  half = omega (arith, xor-step a b, low-lt)
-
-  pub low : bitXor a b % 2 ≡ differ (a % 2) (b % 2)
-  low = omega (arith, xor-step a b, low-lt)
+pub low : (a b : ℕ) → bitXor a b % 2 ≡ differ (a % 2) (b % 2)
+low a b = omega (arith, xor-step a b, differ-lt (a % 2) (b % 2) (omega arith) (omega arith))
 
 pub xor-assoc : (a b c : ℕ) → bitXor (bitXor a b) c ≡ bitXor a (bitXor b c)
 xor-assoc =
@@ -46,7 +39,7 @@ xor-assoc =
     (λ n ih b c.
     xor-step (bitXor n b) c
     ∙ ap₂ (λ (x y : ℕ). x * 2 + y)
-    (ap (λ (x : ℕ). bitXor x (c / 2)) (half n b) ∙ ih (b / 2) (c / 2) ∙ ap (bitXor (n / 2)) (sym (half b c)))
+    (ap (λ (x : ℕ). bitXor x (c / 2)) (xor-shr n b 1) ∙ ih (b / 2) (c / 2) ∙ ap (bitXor (n / 2)) (sym (xor-shr b c 1)))
     (ap (λ (x : ℕ). differ x (c % 2)) (low n b) ∙ differ-assoc (n % 2) (b % 2) (c % 2) (omega arith) (omega arith) (omega arith) ∙ ap (differ (n % 2)) (sym (low b c)))
     ∙ sym (xor-step n (bitXor b c)))
 
