@@ -1,11 +1,11 @@
 -- A frame in ACTIVE: which command it is, and what it does. Assumes nothing.
 use Rattle.std.specs.Prelude.{List, Bool, cond, ◌&&◌, ℕ, ◌%◌, eqb, leb, length}
-use Rattle.crc_a.specs.CrcA.{crcRight}
-use Rattle.image.specs.Layout.{fourAt}
+use Rattle.crc_a.specs.CrcA.{crc_right}
+use Rattle.image.specs.Layout.{four_at}
 use Rattle.tag.specs.declared.state.Tag.{Tag}
 use Rattle.tag.specs.Outcome.{arg, Does, lost, nak}
-use Rattle.reads.specs.Read.{read, fastRead}
-use Rattle.commands.specs.Commands.{write, version, readCount, pwdAuth, hlta}
+use Rattle.reads.specs.Read.{read, fast_read}
+use Rattle.commands.specs.Commands.{write, version, read_count, pwd_auth, hlta}
 use Rattle.active.specs.declared.Command.{Command}
 use Rattle.active.specs.declared.Command.TheVariants.{Read, FastRead, Write, Version, Count, Auth, Hlta, Unknown}
 
@@ -25,29 +25,29 @@ abbrev pub named : List ℕ → ℕ → Command
 named f code =
     cond (eqb code 0x30) (Read (arg f 1))
     (cond (eqb code 0x3A) (FastRead (arg f 1) (arg f 2))
-    (cond (eqb code 0xA2) (Write (arg f 1) (fourAt f 2))
+    (cond (eqb code 0xA2) (Write (arg f 1) (four_at f 2))
     (cond (eqb code 0x60) Version
     (cond (eqb code 0x39) (Count (arg f 1))
-    (cond (eqb code 0x1B) (Auth (fourAt f 1))
+    (cond (eqb code 0x1B) (Auth (four_at f 1))
     (cond (eqb code 0x50) (Hlta (arg f 1)) Unknown))))))
 
-unfoldable pub commandOf : List ℕ → Command
-commandOf f = cond (eqb (length f) (length_of (arg f 0))) (named f (arg f 0)) Unknown
+unfoldable pub command_of : List ℕ → Command
+command_of f = cond (eqb (length f) (length_of (arg f 0))) (named f (arg f 0)) Unknown
 
 -- "Unknown code or wrong length: NAK 0h. Then the command."
 abbrev pub done : ℕ → List ℕ → Tag → Command → Does
 done n img t (Read a) = read n img t a
-done n img t (FastRead s e) = fastRead n img t s e
+done n img t (FastRead s e) = fast_read n img t s e
 done n img t (Write a d) = write n img t a d
 done n img t Version = version n t
-done n img t (Count x) = readCount n img t x
-done n img t (Auth p) = pwdAuth n img t p
+done n img t (Count x) = read_count n img t x
+done n img t (Auth p) = pwd_auth n img t p
 done n img t (Hlta x) = hlta t x
 done n img t Unknown = nak t 0
 
 -- "ACTIVE, in order: not whole bytes, or under 3 bytes: silence, wait state. Bad parity or CRC: NAK 1h."
-unfoldable pub inActive : ℕ → List ℕ → Tag → List ℕ → ℕ → Bool → Does
-inActive n img t f bits parity =
+unfoldable pub in_active : ℕ → List ℕ → Tag → List ℕ → ℕ → Bool → Does
+in_active n img t f bits parity =
     cond (eqb (bits % 8) 0 && leb 3 (length f))
-    (cond (parity && crcRight f) (done n img t (commandOf f)) (nak t 1))
+    (cond (parity && crc_right f) (done n img t (command_of f)) (nak t 1))
     (lost t)

@@ -1,7 +1,7 @@
 // A frame in ACTIVE: which command it is, and what it does.
 ghost use Rattle.std.specs.Prelude.{◌≡◌, ◌≤◌, length};
 ghost use Rattle.tag.specs.Outcome.{Did, Room};
-ghost use Rattle.active.specs.Frame.{length_of, named, commandOf, done, inActive};
+ghost use Rattle.active.specs.Frame.{length_of, named, command_of, done, in_active};
 
 use image::layout::{Four, four_at};
 use tag::outcome::{Step, lost, nak};
@@ -55,7 +55,7 @@ fn named(frame: &[u8], code: u8) -> Command
 
 pub fn decode(frame: &[u8]) -> Command
     requires { 3 ≤ length frame.now }
-    ensures { result ≡ commandOf frame.now }
+    ensures { result ≡ command_of frame.now }
 {
     let code = frame[0];
     let n = length_of(code);
@@ -93,7 +93,7 @@ pub fn active(
     parity: bool,
 ) -> Step
     requires { Room n image.old answer.old }
-    ensures { Did (inActive n image.old tag frame.now bits parity) result image.old image.new answer.old answer.new }
+    ensures { Did (in_active n image.old tag frame.now bits parity) result image.old image.new answer.old answer.new }
 {
     if bits % 8 != 0 {
         return lost(tag);

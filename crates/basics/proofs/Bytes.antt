@@ -2,7 +2,7 @@
 use mathlib.Core.Path.{◌≡◌}
 use Prim.Native.Nat.{ℕ}
 use native.Mathlib.Omega.{arith}
-use Rattle.basics.specs.Bytes.{low_first, low_byte, highByte}
+use Rattle.basics.specs.Bytes.{low_first, low_byte, high_byte}
 
-pub low-first-bytes : (w : ℕ) → low_first (low_byte w) (highByte w) ≡ w
-low-first-bytes w = omega arith
+pub low_first_bytes : (w : ℕ) → low_first (low_byte w) (high_byte w) ≡ w
+low_first_bytes w = omega arith

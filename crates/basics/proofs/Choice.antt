@@ -31,24 +31,24 @@ and_right false b e = never (let z : true ≡ false = cc in z)
 pub and_both : (a b : Bool) → a ≡ true → b ≡ true → (a && b) ≡ true
 and_both a b e h = rw (e, h)
 
-pub not-true : (a : Bool) → not a ≡ true → a ≡ false
-not-true true e = never (let z : true ≡ false = cc in z)
-not-true false e = refl
+pub not_true : (a : Bool) → not a ≡ true → a ≡ false
+not_true true e = never (let z : true ≡ false = cc in z)
+not_true false e = refl
 
-pub not-not : (a : Bool) → a ≡ not (not a)
-not-not true = refl
-not-not false = refl
+pub not_not : (a : Bool) → a ≡ not (not a)
+not_not true = refl
+not_not false = refl
 
 -- ---- choices
 
 -- a choice between one thing and itself
-pub same-either : {A : Type 0} (b : Bool) (x : A) → x ≡ cond b x x
-same-either true x = refl
-same-either false x = refl
+pub same_either : {A : Type 0} (b : Bool) (x : A) → x ≡ cond b x x
+same_either true x = refl
+same_either false x = refl
 
 -- what a function by cases gives, where the case is known
-pub by-case : {A B : Type 0} (f : A → B) (s s' : A) (r : B) → s ≡ s' → r ≡ f s' → r ≡ f s
-by-case f s s' r e h = rw e h
+pub by_case : {A B : Type 0} (f : A → B) (s s' : A) (r : B) → s ≡ s' → r ≡ f s' → r ≡ f s
+by_case f s s' r e h = rw e h
 
 -- the value of a test that is held as a flag, where the flag's is known
 pub flag : (f t v : Bool) → f ≡ t → f ≡ v → t ≡ v

@@ -9,5 +9,5 @@ low_first low high = low + 256 * high
 abbrev pub low_byte : ℕ → ℕ
 low_byte w = w % 256
 
-abbrev pub highByte : ℕ → ℕ
-highByte w = w / 256
+abbrev pub high_byte : ℕ → ℕ
+high_byte w = w / 256

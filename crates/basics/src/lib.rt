@@ -1,7 +1,7 @@
 // What every crate counts with: a byte as a wider number, two bytes as one number, and a byte's hex digits.
 ghost use Rattle.std.specs.Prelude.{◌≡◌, ◌/◌, ◌%◌, ◌<◌};
-ghost use Rattle.basics.specs.Bytes.{low_first, low_byte, highByte};
-ghost use Rattle.basics.specs.Hex.{hexChar};
+ghost use Rattle.basics.specs.Bytes.{low_first, low_byte, high_byte};
+ghost use Rattle.basics.specs.Hex.{hex_char};
 
 pub fn to_u16(b: u8) -> u16
     ensures { (result ≡ b) × (result < 256) }
@@ -41,7 +41,7 @@ pub fn low_byte(w: u16) -> u8
 }
 
 pub fn high_byte(w: u16) -> u8
-    ensures { result ≡ highByte w }
+    ensures { result ≡ high_byte w }
 {
     (w / 256) as u8
 }
@@ -49,19 +49,19 @@ pub fn high_byte(w: u16) -> u8
 // The capital hex digit of a number below 16.
 fn hex_char(n: u8) -> u8
     requires { n < 16 }
-    ensures { result ≡ hexChar n }
+    ensures { result ≡ hex_char n }
 {
     if n < 10 { n + 48 } else { n + 55 }
 }
 
 pub fn high_char(b: u8) -> u8
-    ensures { result ≡ hexChar (b / 16) }
+    ensures { result ≡ hex_char (b / 16) }
 {
     hex_char(b / 16)
 }
 
 pub fn low_char(b: u8) -> u8
-    ensures { result ≡ hexChar (b % 16) }
+    ensures { result ≡ hex_char (b % 16) }
 {
     hex_char(b % 16)
 }

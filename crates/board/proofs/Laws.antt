@@ -2,7 +2,7 @@
 use Prim.Native.Nat.{ℕ}
 use mathlib.Core.Path.{◌≡◌, sym, ap, ◌∙◌}
 use Rattle.image.specs.declared.layout.Size.{Size}
-use Rattle.board.specs.Board.{pagesOf}
+use Rattle.board.specs.Board.{pages_of}
 
-pub paged : (s known told : Size) (n : ℕ) → s ≡ told → s ≡ known → n ≡ pagesOf known → n ≡ pagesOf told
-paged s known told n e k h = h ∙ ap pagesOf (sym k ∙ e)
+pub paged : (s known told : Size) (n : ℕ) → s ≡ told → s ≡ known → n ≡ pages_of known → n ≡ pages_of told
+paged s known told n e k h = h ∙ ap pages_of (sym k ∙ e)

@@ -4,6 +4,6 @@ use Rattle.image.specs.declared.layout.Size.{Size}
 use Rattle.image.specs.declared.layout.Size.TheVariants.{Pages, Unknown}
 
 -- "The length tells the size"; 0 where it tells none
-abbrev pub pagesOf : Size → ℕ
-pagesOf (Pages n) = n
-pagesOf Unknown = 0
+abbrev pub pages_of : Size → ℕ
+pages_of (Pages n) = n
+pages_of Unknown = 0

@@ -2,14 +2,14 @@
 // contract. `corridor_bus_event` stands in two_wire, where it is proved.
 ghost use Rattle.std.specs.Prelude.{◌≡◌, length};
 ghost use Rattle.image.specs.Layout.{size_of};
-ghost use Rattle.tag.specs.State.{fieldOff};
-ghost use Rattle.tag.specs.Outcome.{answerRoom};
-ghost use Rattle.tag.specs.Record.{recordOf, fieldLoss};
+ghost use Rattle.tag.specs.State.{field_off};
+ghost use Rattle.tag.specs.Outcome.{answer_room};
+ghost use Rattle.tag.specs.Record.{record_of, field_loss};
 ghost use Rattle.radio.specs.Call.{called, Met};
-ghost use Rattle.two_wire.specs.Record.{atRest};
+ghost use Rattle.two_wire.specs.Record.{at_rest};
 ghost use Rattle.screen.specs.Screen.{seen, answer_of};
 ghost use Rattle.logger.specs.Writer.{written, Wrote};
-ghost use Rattle.board.specs.Board.{pagesOf};
+ghost use Rattle.board.specs.Board.{pages_of};
 
 use image::layout::Size;
 use radio::Answer;
@@ -21,7 +21,7 @@ use two_wire::BusRecord;
 // The record to begin with.
 #[unsafe(no_mangle)]
 pub extern "C" fn corridor_field_off() -> TagRecord
-    ensures { result ≡ recordOf fieldOff }
+    ensures { result ≡ record_of field_off }
 {
     radio::field_off()
 }
@@ -29,7 +29,7 @@ pub extern "C" fn corridor_field_off() -> TagRecord
 // The field is lost.
 #[unsafe(no_mangle)]
 pub extern "C" fn corridor_field_loss(rec: TagRecord) -> TagRecord
-    ensures { result ≡ fieldLoss rec }
+    ensures { result ≡ field_loss rec }
 {
     radio::field_loss(rec)
 }
@@ -52,7 +52,7 @@ pub extern "C" fn corridor_frame(
 // The bus record to begin with.
 #[unsafe(no_mangle)]
 pub extern "C" fn corridor_bus_at_rest() -> BusRecord
-    ensures { result ≡ atRest }
+    ensures { result ≡ at_rest }
 {
     two_wire::bus_at_rest()
 }
@@ -76,7 +76,7 @@ pub extern "C" fn corridor_write_reading(area: &mut [u8], second: u32, watts: u3
 // How many pages an image of so many bytes has.
 #[unsafe(no_mangle)]
 pub extern "C" fn corridor_pages(bytes: usize) -> usize
-    ensures { result ≡ pagesOf (size_of bytes) }
+    ensures { result ≡ pages_of (size_of bytes) }
 {
     let size = image::layout::size_of(bytes);
     match size {
@@ -88,7 +88,7 @@ pub extern "C" fn corridor_pages(bytes: usize) -> usize
 // The smallest answer buffer that the frame call takes.
 #[unsafe(no_mangle)]
 pub extern "C" fn corridor_answer_room() -> usize
-    ensures { result ≡ answerRoom }
+    ensures { result ≡ answer_room }
 {
     ANSWER_ROOM
 }

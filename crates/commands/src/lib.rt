@@ -2,8 +2,8 @@
 ghost use Rattle.std.specs.Prelude.{◌≡◌, false, List, ℕ, ◌+◌, ◌≤◌, ◌<◌, length, set};
 ghost use Rattle.image.specs.Layout.{Fits};
 ghost use Rattle.image.specs.Write.{locked};
-ghost use Rattle.tag.specs.Outcome.{apply, answerRoom, Did, Room};
-ghost use Rattle.commands.specs.Commands.{underPassword, refuses, write, sizeCode, version, readCount, limitReached, same, wrongCounted, accepted, rejected, pwdAuth, hlta};
+ghost use Rattle.tag.specs.Outcome.{apply, answer_room, Did, Room};
+ghost use Rattle.commands.specs.Commands.{under_password, refuses, write, size_code, version, read_count, limit_reached, same, wrong_counted, accepted, rejected, pwd_auth, hlta};
 
 use basics::to_usize;
 use image::layout::{Four, Region};
@@ -13,7 +13,7 @@ use tag::state::Tag;
 // Whether a page is under password.
 fn under_password(image: &[u8], n: usize, tag: Tag, page: usize) -> bool
     requires { Fits n image.now }
-    ensures { result ≡ underPassword n image.now tag page }
+    ensures { result ≡ under_password n image.now tag page }
 {
     if to_usize(image::settings::auth0(image, n)) <= page {
         if tag.authenticated() { false } else { true }
@@ -63,7 +63,7 @@ pub fn write(image: &mut [u8], answer: &mut [u8], n: usize, tag: Tag, a: u8, d: 
 }
 
 fn size_code(n: usize) -> u8
-    ensures { result ≡ sizeCode n }
+    ensures { result ≡ size_code n }
 {
     match n {
         45 => 0x0F,
@@ -74,13 +74,13 @@ fn size_code(n: usize) -> u8
 
 fn set_size_code(answer: &mut [u8], n: usize)
     requires { 8 ≤ length answer.old }
-    ensures { answer.new ≡ set answer.old 6 (sizeCode n) }
+    ensures { answer.new ≡ set answer.old 6 (size_code n) }
 {
     answer[6] = size_code(n);
 }
 
 pub fn version(answer: &mut [u8], n: usize, tag: Tag) -> Step
-    requires { answerRoom ≤ length answer.old }
+    requires { answer_room ≤ length answer.old }
     ensures { (img : List ℕ) → Did (version n tag) result img img answer.old answer.new }
 {
     lay(answer, b"\x00\x1D\x04\x01\x01\x00\x00\x03");
@@ -90,7 +90,7 @@ pub fn version(answer: &mut [u8], n: usize, tag: Tag) -> Step
 
 pub fn read_count(image: &[u8], answer: &mut [u8], n: usize, tag: Tag, x: u8) -> Step
     requires { Room n image.now answer.old }
-    ensures { Did (readCount n image.now tag x) result image.now image.now answer.old answer.new }
+    ensures { Did (read_count n image.now tag x) result image.now image.now answer.old answer.new }
 {
     if x != 0x02 {
         return nak(answer, tag, 0);
@@ -107,7 +107,7 @@ pub fn read_count(image: &[u8], answer: &mut [u8], n: usize, tag: Tag, x: u8) ->
 
 fn limit_reached(image: &[u8], n: usize) -> bool
     requires { Fits n image.now }
-    ensures { result ≡ limitReached n image.now }
+    ensures { result ≡ limit_reached n image.now }
 {
     let limit = image::settings::authlim(image, n);
     if limit == 0 {
@@ -145,8 +145,8 @@ fn accepted(image: &mut [u8], answer: &mut [u8], n: usize, tag: Tag) -> Step
 
 // A wrong password counts where there is a limit.
 fn count_wrong(image: &mut [u8], n: usize)
-    requires { Fits n image.old × (limitReached n image.old ≡ false) }
-    ensures { image.new ≡ apply image.old (wrongCounted n image.old) }
+    requires { Fits n image.old × (limit_reached n image.old ≡ false) }
+    ensures { image.new ≡ apply image.old (wrong_counted n image.old) }
 {
     let limit = image::settings::authlim(image, n);
     if limit == 0 {
@@ -157,7 +157,7 @@ fn count_wrong(image: &mut [u8], n: usize)
 }
 
 fn rejected(image: &mut [u8], answer: &mut [u8], n: usize, tag: Tag) -> Step
-    requires { Room n image.old answer.old × (limitReached n image.old ≡ false) }
+    requires { Room n image.old answer.old × (limit_reached n image.old ≡ false) }
     ensures { Did (rejected n image.old tag) result image.old image.new answer.old answer.new }
 {
     count_wrong(image, n);
@@ -166,7 +166,7 @@ fn rejected(image: &mut [u8], answer: &mut [u8], n: usize, tag: Tag) -> Step
 
 pub fn pwd_auth(image: &mut [u8], answer: &mut [u8], n: usize, tag: Tag, p: Four) -> Step
     requires { Room n image.old answer.old }
-    ensures { Did (pwdAuth n image.old tag p) result image.old image.new answer.old answer.new }
+    ensures { Did (pwd_auth n image.old tag p) result image.old image.new answer.old answer.new }
 {
     if limit_reached(image, n) {
         return nak(answer, tag, 0);
@@ -180,7 +180,7 @@ pub fn pwd_auth(image: &mut [u8], answer: &mut [u8], n: usize, tag: Tag, p: Four
 }
 
 pub fn hlta(answer: &mut [u8], tag: Tag, x: u8) -> Step
-    requires { answerRoom ≤ length answer.old }
+    requires { answer_room ≤ length answer.old }
     ensures { (img : List ℕ) → Did (hlta tag x) result img img answer.old answer.new }
 {
     if x == 0x00 {

@@ -7,19 +7,19 @@ use lib.ListN.{length}
 use Rattle.input.specs.Running.{LongAlike}
 use Rattle.words.specs.Word.{first_of}
 use Rattle.words.specs.Args.{long}
-use Rattle.words.proofs.Whole.{too_long}
-use Rattle.laying.specs.Parts.{lineText}
+use Rattle.words.proofs.Whole.{too_long_lem}
+use Rattle.laying.specs.Parts.{line_text}
 use Rattle.lines.specs.declared.read.Verb.TheVariants as verb
-use Rattle.lines.specs.Said.{row_of, verbOf, said_of}
+use Rattle.lines.specs.Said.{row_of, verb_of, said_of}
 use Rattle.lines.specs.Told.{parts_of}
 use Rattle.corridor.specs.Played.{Board, Played, played, program}
 
 -- whatever the first word of a line that is too long is
-played-long : (b : Board) (w : List ℕ) → 16397 < length w → played b (verbOf w) (said_of w) ≡ played b verb.Help long
-played-long b w h = ap (played b (verbOf w)) (too_long 16397 (row_of (first_of w)).1 w h)
+played_long : (b : Board) (w : List ℕ) → 16397 < length w → played b (verb_of w) (said_of w) ≡ played b verb.Help long
+played_long b w h = ap (played b (verb_of w)) (too_long_lem 16397 (row_of (first_of w)).1 w h)
 
-pub long-alike : LongAlike program
-long-alike = record {
-  answer = (λ b l l' h h'. ap (λ (x : Played). lineText (parts_of x.told)) (played-long b l (omega arith) ∙ sym (played-long b l' (omega arith))));
-  next = (λ b l l' h h'. ap (λ (x : Played). x.board) (played-long b l (omega arith) ∙ sym (played-long b l' (omega arith))));
+pub long_alike : LongAlike program
+long_alike = record {
+  answer = (λ b l l' h h'. ap (λ (x : Played). line_text (parts_of x.told)) (played_long b l (omega arith) ∙ sym (played_long b l' (omega arith))));
+  next = (λ b l l' h h'. ap (λ (x : Played). x.board) (played_long b l (omega arith) ∙ sym (played_long b l' (omega arith))));
 }

@@ -5,8 +5,8 @@ ghost use Rattle.radio.specs.Call.{Called, called, Met};
 ghost use Rattle.two_wire.specs.declared.record.BusRecord.{BusRecord as Bus};
 ghost use Rattle.two_wire.specs.Region.{Lent, both};
 ghost use Rattle.two_wire.specs.Event.{does, Did};
-ghost use Rattle.lines.specs.Told.{tells, bytesIn, AnswerFits};
-ghost use Rattle.corridor.specs.Played.{callTold, eventTold, waitTold, tagTold, busTold};
+ghost use Rattle.lines.specs.Told.{tells, bytes_in, AnswerFits};
+ghost use Rattle.corridor.specs.Played.{call_told, event_told, wait_told, tag_told, bus_told};
 
 use lines::write::{Answer, Word};
 use tag::record::{TagRecord, tag_of};
@@ -42,7 +42,7 @@ pub fn call_frame(
 pub fn frame_told(refused: u8, bits: usize) -> Answer
     requires { bits ≤ 8192 }
     ensures answer_fits { AnswerFits result }
-    ensures img_value { (c : Called) (buf img : List ℕ) → refused ≡ c.refused → bits ≡ bits_of c.reply → take (bytesIn bits) buf ≡ answer_of c.reply → tells result buf img ≡ callTold c }
+    ensures img_value { (c : Called) (buf img : List ℕ) → refused ≡ c.refused → bits ≡ bits_of c.reply → take (bytes_in bits) buf ≡ answer_of c.reply → tells result buf img ≡ call_told c }
 {
     if refused != 0 {
         return Answer::Refused(refused);
@@ -79,7 +79,7 @@ pub fn event_number(number: usize) -> u8
 // What an event is answered by.
 pub fn event_told(answer: BusAnswer) -> Answer
     ensures answer_fits { AnswerFits result }
-    ensures by_index { (buf img : List ℕ) → tells result buf img ≡ eventTold answer }
+    ensures by_index { (buf img : List ℕ) → tells result buf img ≡ event_told answer }
 {
     let value = answer.value;
     if answer.refused != 0 {
@@ -99,7 +99,7 @@ pub fn event_told(answer: BusAnswer) -> Answer
 
 // The state to go back to.
 fn wait_told(wait: Wait) -> Word
-    ensures { result ≡ waitTold wait }
+    ensures { result ≡ wait_told wait }
 {
     match wait {
         Wait::ToIdle => Word::Idle,
@@ -110,7 +110,7 @@ fn wait_told(wait: Wait) -> Word
 // Where a tag stands. What a record without a meaning counts as is the tag's to say.
 pub fn tag_told(rec: TagRecord) -> Answer
     ensures answer_fits { AnswerFits result }
-    ensures by_index { (buf img : List ℕ) → tells result buf img ≡ tagTold rec }
+    ensures by_index { (buf img : List ℕ) → tells result buf img ≡ tag_told rec }
 {
     let tag = tag_of(rec);
     let state = tag.state;
@@ -134,7 +134,7 @@ fn places_told(held: u8) -> u8
 // Where a bus stands. What a number that is no phase's counts as is the two wires' to say.
 pub fn bus_told(rec: BusRecord) -> Answer
     ensures answer_fits { AnswerFits result }
-    ensures by_index { (buf img : List ℕ) → tells result buf img ≡ busTold rec }
+    ensures by_index { (buf img : List ℕ) → tells result buf img ≡ bus_told rec }
 {
     let phase = phase_of(rec.phase);
     let counter = rec.counter;

@@ -6,7 +6,7 @@ ghost use Rattle.std.specs.Prelude.{◌≡◌, ◌≤◌, length};
 ghost use Rattle.input.specs.Reading.{Reads};
 ghost use Rattle.input.specs.Running.{Goes};
 ghost use Rattle.corridor.specs.Played.{program};
-ghost use Rattle.corridor.specs.Session.{boardOf, Within, Ends};
+ghost use Rattle.corridor.specs.Session.{board_of, Within, Ends};
 
 use input::{Chunk, Input, Line, ROOM};
 use lines::read::Sent;
@@ -46,7 +46,7 @@ fn turn(
 ) -> State
     requires { (Reads state.input) × (Within state.session) }
     ensures reads { (Reads result.input) × (Within result.session) × (result.said ≤ 2080) }
-    ensures goes { Goes program (boardOf state.session image.old memory.old) state.input line.old chunk.old (boardOf result.session image.new memory.new) result.input result.said line.new chunk.new out.new }
+    ensures goes { Goes program (board_of state.session image.old memory.old) state.input line.old chunk.old (board_of result.session image.new memory.new) result.input result.said line.new chunk.new out.new }
 {
     let input = state.input;
     let session = state.session;

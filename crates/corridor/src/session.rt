@@ -1,12 +1,12 @@
 // The board that is played, and what each line does to it. Nothing here knows the tag's rules: every answer comes from the frame call, the
 // field loss and the bus event.
 ghost use Rattle.std.specs.Prelude.{◌≡◌, List, ℕ, ◌≤◌, length, take, get_or};
-ghost use Rattle.input.specs.Reading.{lineRoom};
-ghost use Rattle.words.specs.Args.{saidBy};
+ghost use Rattle.input.specs.Reading.{line_room};
+ghost use Rattle.words.specs.Args.{said_by};
 ghost use Rattle.lines.specs.Said.{AskedFits};
 ghost use Rattle.lines.specs.Told.{Told, tells, AnswerFits};
-ghost use Rattle.corridor.specs.Played.{zeros, opening, obeyed, played, takes, lends, lendsMemory, loses, hears, sees, answers, shows, recalls};
-ghost use Rattle.corridor.specs.Session.{boardOf, Within, Acts, Answers};
+ghost use Rattle.corridor.specs.Played.{zeros, opening, obeyed, played, takes, lends, lends_memory, loses, hears, sees, answers, shows, recalls};
+ghost use Rattle.corridor.specs.Session.{board_of, Within, Acts, Answers};
 
 use crate::calls::{
     bus_told, call_frame, call_step, event_number, event_told, frame_told, tag_told,
@@ -61,7 +61,7 @@ fn clear(buffer: &mut [u8], n: usize)
 
 pub fn new_session(memory: &mut Memory) -> Session
     ensures within { Within result }
-    ensures by_index { (img : List ℕ) → boardOf result img memory.new ≡ opening }
+    ensures by_index { (img : List ℕ) → board_of result img memory.new ≡ opening }
 {
     clear(memory, MEMORY_LENGTH);
     let tag = radio::field_off();
@@ -78,7 +78,7 @@ pub fn new_session(memory: &mut Memory) -> Session
 fn take_image(image: &mut Kilobyte, bytes: &Sent, session: Session, n: usize) -> Acted
     requires n_bound { n ≤ 1024 }
     requires within { Within session }
-    ensures { (mem buf : List ℕ) → Acts (takes (boardOf session image.old mem) (take n bytes.now)) result image.new mem buf }
+    ensures { (mem buf : List ℕ) → Acts (takes (board_of session image.old mem) (take n bytes.now)) result image.new mem buf }
 {
     let size = put_front(image, 0, bytes, n);
     let lent = session.lent;
@@ -101,7 +101,7 @@ fn take_image(image: &mut Kilobyte, bytes: &Sent, session: Session, n: usize) ->
 fn lend(session: Session, n: usize) -> Acted
     requires n_bound { n ≤ 1024 }
     requires within { Within session }
-    ensures { (img mem buf : List ℕ) → Acts (lends (boardOf session img mem) n) result img mem buf }
+    ensures { (img mem buf : List ℕ) → Acts (lends (board_of session img mem) n) result img mem buf }
 {
     let mut next = session;
     next.lent = n;
@@ -114,7 +114,7 @@ fn lend(session: Session, n: usize) -> Acted
 fn lend_memory(memory: &mut Memory, session: Session, n: usize) -> Acted
     requires n_bound { n ≤ 16384 }
     requires within { Within session }
-    ensures { (img buf : List ℕ) → Acts (lendsMemory (boardOf session img memory.old) n) result img memory.new buf }
+    ensures { (img buf : List ℕ) → Acts (lends_memory (board_of session img memory.old) n) result img memory.new buf }
 {
     clear(memory, n);
     let mut next = session;
@@ -127,7 +127,7 @@ fn lend_memory(memory: &mut Memory, session: Session, n: usize) -> Acted
 
 fn lose_field(session: Session) -> Acted
     requires { Within session }
-    ensures { (img mem buf : List ℕ) → Acts (loses (boardOf session img mem)) result img mem buf }
+    ensures { (img mem buf : List ℕ) → Acts (loses (board_of session img mem)) result img mem buf }
 {
     let tag = radio::field_loss(session.tag);
     let mut next = session;
@@ -149,7 +149,7 @@ fn hear(
 ) -> Acted
     requires count_bound { count ≤ 8192 }
     requires within { Within session }
-    ensures { (mem : List ℕ) → Acts (hears (boardOf session image.old mem) bits (take count bytes.now) good) result image.new mem answer.new }
+    ensures { (mem : List ℕ) → Acts (hears (board_of session image.old mem) bits (take count bytes.now) good) result image.new mem answer.new }
 {
     let size = session.size;
     let lent = session.lent;
@@ -173,7 +173,7 @@ fn see(
     byte: u8,
 ) -> Acted
     requires { Within session }
-    ensures { (buf : List ℕ) → Acts (sees (boardOf session image.old memory.old) number byte) result image.new memory.new buf }
+    ensures { (buf : List ℕ) → Acts (sees (board_of session image.old memory.old) number byte) result image.new memory.new buf }
 {
     let size = session.size;
     let room = session.memory;
@@ -194,7 +194,7 @@ fn see(
 fn answered(session: Session, told: Answer) -> Acted
     requires within { Within session }
     requires answer_fits { AnswerFits told }
-    ensures { (img mem buf : List ℕ) (t : Told) → tells told buf img ≡ t → Acts (answers (boardOf session img mem) t) result img mem buf }
+    ensures { (img mem buf : List ℕ) (t : Told) → tells told buf img ≡ t → Acts (answers (board_of session img mem) t) result img mem buf }
 {
     Acted { session, told }
 }
@@ -240,7 +240,7 @@ fn obey(
 ) -> Acted
     requires within { Within session }
     requires asked_fits { AskedFits asked }
-    ensures { Acts (obeyed (boardOf session image.old memory.old) asked.verb (get_or asked.given.numbers 0 0) (get_or asked.given.numbers 1 0) (take asked.given.end bytes.now)) result image.new memory.new answer.new }
+    ensures { Acts (obeyed (board_of session image.old memory.old) asked.verb (get_or asked.given.numbers 0 0) (get_or asked.given.numbers 1 0) (take asked.given.end bytes.now)) result image.new memory.new answer.new }
 {
     let verb = asked.verb;
     let given = asked.given;
@@ -281,7 +281,7 @@ fn act(
 ) -> Acted
     requires within { Within session }
     requires asked_fits { AskedFits asked }
-    ensures { Acts (played (boardOf session image.old memory.old) asked.verb (saidBy asked.given bytes.now)) result image.new memory.new answer.new }
+    ensures { Acts (played (board_of session image.old memory.old) asked.verb (said_by asked.given bytes.now)) result image.new memory.new answer.new }
 {
     let given = asked.given;
     let verdict = given.verdict;
@@ -304,9 +304,9 @@ pub fn respond(
     len: usize,
     session: Session,
 ) -> Responded
-    requires len_le_line_room { len ≤ lineRoom }
+    requires len_le_line_room { len ≤ line_room }
     requires within { Within session }
-    ensures { Answers (boardOf session image.old memory.old) (take len line.now) result image.new memory.new out.new }
+    ensures { Answers (board_of session image.old memory.old) (take len line.now) result image.new memory.new out.new }
 {
     let end = unended(line, len);
     if is_skipped(line, end) {

@@ -14,24 +14,24 @@ use Rattle.basics.proofs.Choice.{and_left, and_right}
 
 -- ---- exclusive-or, bit by bit
 
-differ-lt : (x y : ℕ) → x < 2 → y < 2 → differ x y < 2
-differ-lt zero y h k = k
-differ-lt (suc zero) zero h k = h
-differ-lt (suc zero) (suc zero) h k = omega arith
-differ-lt (suc zero) (suc (suc y)) h k = absurd (omega arith)
-differ-lt (suc (suc x)) y h k = absurd (omega arith)
+differ_lt : (x y : ℕ) → x < 2 → y < 2 → differ x y < 2
+differ_lt zero y h k = k
+differ_lt (suc zero) zero h k = h
+differ_lt (suc zero) (suc zero) h k = omega arith
+differ_lt (suc zero) (suc (suc y)) h k = absurd (omega arith)
+differ_lt (suc (suc x)) y h k = absurd (omega arith)
 
-differ-assoc : (x y z : ℕ) → x < 2 → y < 2 → z < 2 → differ (differ x y) z ≡ differ x (differ y z)
-differ-assoc zero y z h k l = refl
-differ-assoc (suc zero) zero z h k l = refl
-differ-assoc (suc zero) (suc zero) zero h k l = refl
-differ-assoc (suc zero) (suc zero) (suc zero) h k l = refl
-differ-assoc (suc zero) (suc zero) (suc (suc z)) h k l = absurd (omega arith)
-differ-assoc (suc zero) (suc (suc y)) z h k l = absurd (omega arith)
-differ-assoc (suc (suc x)) y z h k l = absurd (omega arith)
+differ_assoc : (x y z : ℕ) → x < 2 → y < 2 → z < 2 → differ (differ x y) z ≡ differ x (differ y z)
+differ_assoc zero y z h k l = refl
+differ_assoc (suc zero) zero z h k l = refl
+differ_assoc (suc zero) (suc zero) zero h k l = refl
+differ_assoc (suc zero) (suc zero) (suc zero) h k l = refl
+differ_assoc (suc zero) (suc zero) (suc (suc z)) h k l = absurd (omega arith)
+differ_assoc (suc zero) (suc (suc y)) z h k l = absurd (omega arith)
+differ_assoc (suc (suc x)) y z h k l = absurd (omega arith)
 
 pub low : (a b : ℕ) → bit_xor a b % 2 ≡ differ (a % 2) (b % 2)
-low a b = omega (arith, xor_step a b, differ-lt (a % 2) (b % 2) (omega arith) (omega arith))
+low a b = omega (arith, xor_step a b, differ_lt (a % 2) (b % 2) (omega arith) (omega arith))
 
 pub xor_assoc : (a b c : ℕ) → bit_xor (bit_xor a b) c ≡ bit_xor a (bit_xor b c)
 xor_assoc =
@@ -40,11 +40,11 @@ xor_assoc =
     xor_step (bit_xor n b) c
     ∙ ap₂ (λ (x y : ℕ). x * 2 + y)
     (ap (λ (x : ℕ). bit_xor x (c / 2)) (xor_shr n b 1) ∙ ih (b / 2) (c / 2) ∙ ap (bit_xor (n / 2)) (sym (xor_shr b c 1)))
-    (ap (λ (x : ℕ). differ x (c % 2)) (low n b) ∙ differ-assoc (n % 2) (b % 2) (c % 2) (omega arith) (omega arith) (omega arith) ∙ ap (differ (n % 2)) (sym (low b c)))
+    (ap (λ (x : ℕ). differ x (c % 2)) (low n b) ∙ differ_assoc (n % 2) (b % 2) (c % 2) (omega arith) (omega arith) (omega arith) ∙ ap (differ (n % 2)) (sym (low b c)))
     ∙ sym (xor_step n (bit_xor b c)))
 
-xor-four : (a b c d : ℕ) → bit_xor (bit_xor a b) (bit_xor c d) ≡ bit_xor (bit_xor a c) (bit_xor b d)
-xor-four a b c d =
+xor_four : (a b c d : ℕ) → bit_xor (bit_xor a b) (bit_xor c d) ≡ bit_xor (bit_xor a c) (bit_xor b d)
+xor_four a b c d =
     xor_assoc a b (bit_xor c d)
     ∙ ap (bit_xor a) (sym (xor_assoc b c d) ∙ ap (λ (x : ℕ). bit_xor x d) (xor_comm b c) ∙ xor_assoc c b d)
     ∙ sym (xor_assoc a c (bit_xor b d))
@@ -67,7 +67,7 @@ pub moved_down : (k : ℕ) → Linear (λ (x : ℕ). x / 2 ^ k)
 moved_down k = record { over = λ a b. xor_shr a b k }
 
 pub both : {f g : ℕ → ℕ} → Linear f → Linear g → Linear (λ (x : ℕ). bit_xor (f x) (g x))
-both {f} {g} h k = record { over = λ a b. ap₂ bit_xor (h.over a b) (k.over a b) ∙ xor-four (f a) (f b) (g a) (g b) }
+both {f} {g} h k = record { over = λ a b. ap₂ bit_xor (h.over a b) (k.over a b) ∙ xor_four (f a) (f b) (g a) (g b) }
 
 infixl 20 ◌then◌
 pub ◌then◌ : {f g : ℕ → ℕ} → Linear f → Linear g → Linear (λ (x : ℕ). g (f x))
@@ -75,8 +75,8 @@ pub ◌then◌ : {f g : ℕ → ℕ} → Linear f → Linear g → Linear (λ (x
 
 -- ---- the same for each of n single bits, the same for each row of n bits
 
-zero-stays : (f : ℕ → ℕ) → Linear f → f 0 ≡ 0
-zero-stays f h = h.over 0 0 ∙ xor_self (f 0)
+zero_stays : (f : ℕ → ℕ) → Linear f → f 0 ≡ 0
+zero_stays f h = h.over 0 0 ∙ xor_self (f 0)
 
 module _ (f g : ℕ → ℕ) where
   unfoldable pub alike : ℕ → Bool
@@ -85,13 +85,13 @@ module _ (f g : ℕ → ℕ) where
 
   -- the highest of the bits, or none
   top : Linear f → Linear g → (n h : ℕ) → f (2 ^ n) ≡ g (2 ^ n) → h < 2 → f (h * 2 ^ n) ≡ g (h * 2 ^ n)
-  top h k n zero e l = rw (zero-mul (2 ^ n)) (zero-stays f h ∙ sym (zero-stays g k))
+  top h k n zero e l = rw (zero-mul (2 ^ n)) (zero_stays f h ∙ sym (zero_stays g k))
   top h k n (suc zero) e l = rw (one-mul (2 ^ n)) e
   top h k n (suc (suc m)) e l = absurd (omega arith)
 
   pub same : Linear f → Linear g → (n : ℕ) → alike n ≡ true → (x : ℕ) → x < 2 ^ n → f x ≡ g x
   unfolding alike
-  same h k zero t x l = let z : x ≡ 0 = omega arith in rw z (zero-stays f h ∙ sym (zero-stays g k))
+  same h k zero t x l = let z : x ≡ 0 = omega arith in rw z (zero_stays f h ∙ sym (zero_stays g k))
   same h k (suc n) t x l =
       let high = x / 2 ^ n in
       let low = x % 2 ^ n in

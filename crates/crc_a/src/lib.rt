@@ -1,7 +1,7 @@
 // CRC_A, the check sum of ISO/IEC 14443-3: of a slice, behind the bytes of a buffer, and at a frame's end.
 ghost use Rattle.std.specs.Prelude.{◌≡◌, ◌+◌, ◌≤◌, length, take};
 ghost use Rattle.std.proofs.lemmas.List.Edits.{sets};
-ghost use Rattle.crc_a.specs.CrcA.{shifted_by, byteIn, crcA, sent, crcRight};
+ghost use Rattle.crc_a.specs.CrcA.{shifted_by, byte_in, crc_a, sent, crc_right};
 
 use basics::low_first;
 
@@ -26,7 +26,7 @@ fn thirty_two_shifts(x: u32) -> u16
 
 // A byte goes into the register: its eight shifts at once.
 fn take_byte(c: u16, b: u8) -> u16
-    ensures { result ≡ byteIn c b }
+    ensures { result ≡ byte_in c b }
 {
     let x = c ^ b as u16;
     (x >> 8) ^ sixteen_shifts(x << 8)
@@ -34,14 +34,14 @@ fn take_byte(c: u16, b: u8) -> u16
 
 // Two bytes go in, the first in the low half.
 fn take_two(c: u16, b0: u8, b1: u8) -> u16
-    ensures { result ≡ byteIn (byteIn c b0) b1 }
+    ensures { result ≡ byte_in (byte_in c b0) b1 }
 {
     sixteen_shifts(c ^ low_first(b0, b1))
 }
 
 // Four bytes go in, the last two above the register.
 fn take_four(c: u16, b0: u8, b1: u8, b2: u8, b3: u8) -> u16
-    ensures { result ≡ byteIn (byteIn (byteIn (byteIn c b0) b1) b2) b3 }
+    ensures { result ≡ byte_in (byte_in (byte_in (byte_in c b0) b1) b2) b3 }
 {
     let low = low_first(b0, b1) as u32;
     let high = low_first(b2, b3) as u32;
@@ -50,7 +50,7 @@ fn take_four(c: u16, b0: u8, b1: u8, b2: u8, b3: u8) -> u16
 
 // The CRC_A of all the bytes. As sent, its low byte goes first.
 pub fn crc_a(bytes: &[u8]) -> u16
-    ensures { result ≡ crcA bytes.now }
+    ensures { result ≡ crc_a bytes.now }
 {
     let n = bytes.len();
     let whole = n - n % 4;
@@ -73,7 +73,7 @@ pub fn crc_a(bytes: &[u8]) -> u16
 // The CRC_A of the buffer's first n bytes is stored behind them.
 pub fn append(buffer: &mut [u8], n: usize)
     requires { n + 2 ≤ length buffer.old }
-    ensures { buffer.new ≡ sets buffer.old n (sent (crcA (take n buffer.old))) }
+    ensures { buffer.new ≡ sets buffer.old n (sent (crc_a (take n buffer.old))) }
 {
     let c = crc_a(&buffer[..n]);
     buffer[n] = (c % 256) as u8;
@@ -82,7 +82,7 @@ pub fn append(buffer: &mut [u8], n: usize)
 
 // Whether the frame's last two bytes are the CRC_A of those before them.
 pub fn is_right(frame: &[u8]) -> bool
-    ensures { result ≡ crcRight frame.now }
+    ensures { result ≡ crc_right frame.now }
 {
     let n = frame.len();
     if n < 2 {

@@ -5,17 +5,17 @@ use native.Mathlib.Omega.{arith}
 use Rattle.image.specs.declared.layout.Four.{Four}
 use Rattle.demands.specs.Demand.{Keeps3}
 use Rattle.demands.specs.Table.{plain}
-use Rattle.demands.specs.Wrong.{lazy, once, twoWrites}
+use Rattle.demands.specs.Wrong.{lazy, once, two_writes}
 use Rattle.demands.proofs.Computes.{computes}
 
-pub lazy-caught : Keeps3 lazy → ⊥
+pub lazy_caught : Keeps3 lazy → ⊥
 unfolding computes
-lazy-caught keeps =
-    let e : ◌≡◌ {A = ℕ} 4 5 = ap (λ (v : Four). v.b0) ((keeps (plain 45) twoWrites).userPages 4 refl) in
+lazy_caught keeps =
+    let e : ◌≡◌ {A = ℕ} 4 5 = ap (λ (v : Four). v.b0) ((keeps (plain 45) two_writes).user_pages 4 refl) in
     omega arith
 
-pub once-caught : Keeps3 once → ⊥
+pub once_caught : Keeps3 once → ⊥
 unfolding computes
-once-caught keeps =
-    let e : ◌≡◌ {A = ℕ} 1 5 = ap (λ (v : Four). v.b0) ((keeps (plain 45) twoWrites).userPages 4 refl) in
+once_caught keeps =
+    let e : ◌≡◌ {A = ℕ} 1 5 = ap (λ (v : Four). v.b0) ((keeps (plain 45) two_writes).user_pages 4 refl) in
     omega arith

@@ -1,15 +1,15 @@
 -- Records that no call hands out, so that no run of lines can reach them, as one table of equations; and the edge of the answer buffer, where
 -- the definition has its number from a name. Assumes nothing.
 use Rattle.std.specs.Prelude.{◌≡◌, List, [], ◌∷◌, Bool, true, false, ℕ, get_or, replicate}
-use Rattle.crc_a.specs.CrcA.{withCrc}
+use Rattle.crc_a.specs.CrcA.{with_crc}
 use Rattle.tag.specs.declared.state.Wait.TheVariants.{ToIdle, ToHalt}
 use Rattle.tag.specs.declared.state.State.{State}
 use Rattle.tag.specs.declared.state.State.TheVariants.{Idle, Halt, Ready1, Ready2, Active}
 use Rattle.tag.specs.declared.state.Tag.{Tag}
 use Rattle.tag.specs.declared.record.TagRecord.{TagRecord}
-use Rattle.tag.specs.State.{fieldOff}
+use Rattle.tag.specs.State.{field_off}
 use Rattle.tag.specs.Outcome.{silence, plain}
-use Rattle.tag.specs.Record.{tag_of, fieldLoss}
+use Rattle.tag.specs.Record.{tag_of, field_loss}
 use Rattle.radio.specs.Call.{Called, called}
 use Rattle.two_wire.specs.declared.record.BusRecord.{BusRecord}
 use Rattle.two_wire.specs.declared.answer.Reply.TheVariants.{Refused, Nothing, Declined, Byte}
@@ -55,36 +55,36 @@ pub record RecordCases : Type 0 where
   -- a number that its state has no use for is passed over
   pub unused : (tag_of (numbers 0 1 1 1) ≡ tag Idle true) × (tag_of (numbers 1 1 1 0) ≡ tag Halt false) × (tag_of (numbers 2 1 1 0) ≡ tag (Ready1 ToHalt) false)
   -- "a tag record with no meaning here counts as after field loss": one number past its range, and far past
-  pub noState : (tag_of (numbers 5 1 1 1) ≡ fieldOff) × (tag_of (numbers 255 1 1 1) ≡ fieldOff)
-  pub noWait : (tag_of (numbers 4 2 1 1) ≡ fieldOff) × (tag_of (numbers 4 255 1 1) ≡ fieldOff)
-  pub noFlag : (tag_of (numbers 4 1 2 1) ≡ fieldOff) × (tag_of (numbers 4 1 255 1) ≡ fieldOff)
-  pub noAnswered : (tag_of (numbers 4 1 1 2) ≡ fieldOff) × (tag_of (numbers 4 1 1 255) ≡ fieldOff)
+  pub no_state : (tag_of (numbers 5 1 1 1) ≡ field_off) × (tag_of (numbers 255 1 1 1) ≡ field_off)
+  pub no_wait : (tag_of (numbers 4 2 1 1) ≡ field_off) × (tag_of (numbers 4 255 1 1) ≡ field_off)
+  pub no_flag : (tag_of (numbers 4 1 2 1) ≡ field_off) × (tag_of (numbers 4 1 255 1) ≡ field_off)
+  pub no_answered : (tag_of (numbers 4 1 1 2) ≡ field_off) × (tag_of (numbers 4 1 1 255) ≡ field_off)
   -- .. in the frame call: REQA wakes it, though its state is HALT, and no read counts as answered
   pub wakes : ((reqa (board 45) 1024 (numbers 1 0 0 2)).reply ≡ plain 16 0x44) × ((reqa (board 45) 1024 (numbers 1 0 0 2)).left ≡ numbers 2 0 0 0)
   pub sleeps : ((reqa (board 45) 1024 (numbers 1 0 0 1)).reply ≡ silence) × ((reqa (board 45) 1024 (numbers 1 0 0 1)).left ≡ numbers 1 0 0 1)
   -- .. READ 00h in READY1 enters ACTIVE unauthenticated, though the record's flag is set, which READY1 has no use for
-  pub entersOut : (called (board 45) 1024 (numbers 2 1 1 0) (withCrc read0) 32 true).left ≡ numbers 4 1 0 1
-  pub fieldLosses : (fieldLoss (numbers 4 1 1 2) ≡ numbers 0 0 0 0) × (fieldLoss (numbers 9 9 9 9) ≡ numbers 0 0 0 0) × (fieldLoss (numbers 4 1 1 1) ≡ numbers 0 0 0 0)
+  pub enters_out : (called (board 45) 1024 (numbers 2 1 1 0) (with_crc read0) 32 true).left ≡ numbers 4 1 0 1
+  pub field_losses : (field_loss (numbers 4 1 1 2) ≡ numbers 0 0 0 0) × (field_loss (numbers 9 9 9 9) ≡ numbers 0 0 0 0) × (field_loss (numbers 4 1 1 1) ≡ numbers 0 0 0 0)
   -- "A refused call returns its number, no answer, the records it was given"
-  pub refusedImage : ((reqa [] 1024 (numbers 9 9 9 9)).refused ≡ 1) × ((reqa [] 1024 (numbers 9 9 9 9)).left ≡ numbers 9 9 9 9)
+  pub refused_image : ((reqa [] 1024 (numbers 9 9 9 9)).refused ≡ 1) × ((reqa [] 1024 (numbers 9 9 9 9)).left ≡ numbers 9 9 9 9)
   -- "2: frame call: answer buffer under 1,024 bytes"
-  pub refusedBuffer : ((reqa (board 45) 1023 (numbers 9 9 9 9)).refused ≡ 2) × ((reqa (board 45) 1023 (numbers 9 9 9 9)).left ≡ numbers 9 9 9 9)
+  pub refused_buffer : ((reqa (board 45) 1023 (numbers 9 9 9 9)).refused ≡ 2) × ((reqa (board 45) 1023 (numbers 9 9 9 9)).left ≡ numbers 9 9 9 9)
       × ((reqa (board 45) 1024 (numbers 9 9 9 9)).refused ≡ 0)
 
 pub record BusCases (mem : List ℕ) : Type 0 where
   -- "such a bus record as stopped with nothing gathered, counter kept": its phase is none of the seven, whatever else it has
-  pub restRead : (sees mem (bus 7 5 0x4010) 3 ≡ wires.answered (Byte 0xFF) (bus 7 5 0x4010)) × (sees mem (bus 255 5 0x4010) 4 ≡ wires.answered (Byte 0xFF) (bus 255 5 0x4010))
-  pub restSent : (sees mem (bus 7 5 0x4010) 2 ≡ wires.answered Declined (bus 7 5 0x4010)) × (sees mem (bus 255 5 0x4010) 2 ≡ wires.answered Declined (bus 255 5 0x4010))
-  pub restStarts : sees mem (bus 7 5 0x4010) 0 ≡ wires.answered Nothing (empty 1 0x4010)
-  pub restStops : sees mem (bus 7 5 0x4010) 1 ≡ wires.answered Nothing (empty 0 0x4010)
+  pub rest_read : (sees mem (bus 7 5 0x4010) 3 ≡ wires.answered (Byte 0xFF) (bus 7 5 0x4010)) × (sees mem (bus 255 5 0x4010) 4 ≡ wires.answered (Byte 0xFF) (bus 255 5 0x4010))
+  pub rest_sent : (sees mem (bus 7 5 0x4010) 2 ≡ wires.answered Declined (bus 7 5 0x4010)) × (sees mem (bus 255 5 0x4010) 2 ≡ wires.answered Declined (bus 255 5 0x4010))
+  pub rest_starts : sees mem (bus 7 5 0x4010) 0 ≡ wires.answered Nothing (empty 1 0x4010)
+  pub rest_stops : sees mem (bus 7 5 0x4010) 1 ≡ wires.answered Nothing (empty 0 0x4010)
   -- "4: bus call: event isn't one of the five"; "the records it was given"
-  pub refusedEvent : sees mem (bus 7 5 0x4010) 5 ≡ wires.answered (Refused 4) (bus 7 5 0x4010)
+  pub refused_event : sees mem (bus 7 5 0x4010) 5 ≡ wires.answered (Refused 4) (bus 7 5 0x4010)
   -- Q-1: "5, bus call with a data memory that isn't 16,384 bytes, after 1 and before 4": here it has no byte
-  pub refusedMemory : (wires.does (both [] []) (bus 7 5 0x4010) 9 0 ≡ wires.answered (Refused 1) (bus 7 5 0x4010)) × (sees [] (bus 7 5 0x4010) 9 ≡ wires.answered (Refused 5) (bus 7 5 0x4010))
+  pub refused_memory : (wires.does (both [] []) (bus 7 5 0x4010) 9 0 ≡ wires.answered (Refused 1) (bus 7 5 0x4010)) × (sees [] (bus 7 5 0x4010) 9 ≡ wires.answered (Refused 5) (bus 7 5 0x4010))
   -- while writing, a count of 64 or more is of every place, and the next place goes by its remainder: bytes up to 403Fh, and then no more
-  pub everyPlace : (get_or (stored mem (bus 4 255 0x4015)).image 0x14 0 ≡ 0xFF) × (get_or (stored mem (bus 4 255 0x4015)).image 0x3F 0 ≡ 0xFF)
+  pub every_place : (get_or (stored mem (bus 4 255 0x4015)).image 0x14 0 ≡ 0xFF) × (get_or (stored mem (bus 4 255 0x4015)).image 0x3F 0 ≡ 0xFF)
       × (get_or (stored mem (bus 4 255 0x4015)).image 0x40 0 ≡ 0x10) × ((sees mem (bus 4 255 0x4015) 1).bus ≡ empty 0 0x4014)
-  pub countsOn : ((sees mem (bus 4 255 0x4015) 2).bus.held ≡ 64) × ((sees mem (bus 4 127 0x4015) 2).bus.held ≡ 64) × ((sees mem (bus 4 63 0x4015) 2).bus.held ≡ 64)
+  pub counts_on : ((sees mem (bus 4 255 0x4015) 2).bus.held ≡ 64) × ((sees mem (bus 4 127 0x4015) 2).bus.held ≡ 64) × ((sees mem (bus 4 63 0x4015) 2).bus.held ≡ 64)
   -- a write in a page that no region has stores nothing, and one in the data memory (Q-1) nothing in the image
   pub outside : (stored mem (bus 4 64 0x40C0) ≡ both (board 45) mem) × (stored mem (bus 4 64 0xFFC0) ≡ both (board 45) mem) × ((stored mem (bus 4 64 0x3FC0)).image ≡ board 45)
   -- a counter in neither region counts as 4000h, and one in the data memory doesn't

@@ -1,7 +1,7 @@
 -- What the bytes of an image are, after document 01's "The image". Assumes nothing.
 use Rattle.std.specs.Prelude.{◌≡◌, List, [], ◌∷◌, map, cond, ℕ, ◌+◌, ◌-◌, ◌*◌, ◌≤◌, length, get_or, eqb, leb, ltb}
 use Rattle.std.proofs.lemmas.List.Edits.{sets}
-use Rattle.locks.specs.Locks.{Sized, lockPage}
+use Rattle.locks.specs.Locks.{Sized, lock_page}
 use Rattle.image.specs.declared.layout.Four.{Four}
 use Rattle.image.specs.declared.layout.Size.{Size}
 use Rattle.image.specs.declared.layout.Size.TheVariants.{Pages, Unknown}
@@ -24,11 +24,11 @@ unfoldable pub byte : List ℕ → ℕ → ℕ → ℕ
 byte img p k = get_or img (4 * p + k) 0
 
 -- the four bytes from place i on, and those of page p
-unfoldable pub fourAt : List ℕ → ℕ → Four
-fourAt xs i = record { b0 = get_or xs i 0; b1 = get_or xs (i + 1) 0; b2 = get_or xs (i + 2) 0; b3 = get_or xs (i + 3) 0 }
+unfoldable pub four_at : List ℕ → ℕ → Four
+four_at xs i = record { b0 = get_or xs i 0; b1 = get_or xs (i + 1) 0; b2 = get_or xs (i + 2) 0; b3 = get_or xs (i + 3) 0 }
 
-unfoldable pub pageAt : List ℕ → ℕ → Four
-pageAt img p = record { b0 = byte img p 0; b1 = byte img p 1; b2 = byte img p 2; b3 = byte img p 3 }
+unfoldable pub page_at : List ℕ → ℕ → Four
+page_at img p = record { b0 = byte img p 0; b1 = byte img p 1; b2 = byte img p 2; b3 = byte img p 3 }
 
 unfoldable pub bytes_of : Four → List ℕ
 bytes_of v = v.b0 ∷ v.b1 ∷ v.b2 ∷ v.b3 ∷ []
@@ -37,40 +37,40 @@ bytes_of v = v.b0 ∷ v.b1 ∷ v.b2 ∷ v.b3 ∷ []
 unfoldable pub store : List ℕ → ℕ → Four → List ℕ
 store img p v = sets img (4 * p) (bytes_of v)
 
--- the table's columns "settings", "PWD" and "PACK"; lockPage is "dynamic lock"
-abbrev pub firstSettings : ℕ → ℕ
-firstSettings n = n - 4
+-- the table's columns "settings", "PWD" and "PACK"; lock_page is "dynamic lock"
+abbrev pub first_settings : ℕ → ℕ
+first_settings n = n - 4
 
-abbrev pub secondSettings : ℕ → ℕ
-secondSettings n = n - 3
+abbrev pub second_settings : ℕ → ℕ
+second_settings n = n - 3
 
-abbrev pub pwdPage : ℕ → ℕ
-pwdPage n = n - 2
+abbrev pub pwd_page : ℕ → ℕ
+pwd_page n = n - 2
 
-abbrev pub packPage : ℕ → ℕ
-packPage n = n - 1
+abbrev pub pack_page : ℕ → ℕ
+pack_page n = n - 1
 
 -- the tail follows page N-1 as if it were page N
-abbrev pub tailPage : ℕ → ℕ
-tailPage n = n
+abbrev pub tail_page : ℕ → ℕ
+tail_page n = n
 
 -- what a page is for: "UID, locks, user, settings, password"
-unfoldable pub regionOf : ℕ → ℕ → Region
-regionOf n p =
+unfoldable pub region_of : ℕ → ℕ → Region
+region_of n p =
     cond (leb n p) Outside
     (cond (ltb p 2) Uid
     (cond (ltb p 3) StaticLocks
     (cond (ltb p 4) Capability
-    (cond (ltb p (lockPage n)) User
-    (cond (ltb p (firstSettings n)) DynamicLocks
-    (cond (ltb p (pwdPage n)) Settings
+    (cond (ltb p (lock_page n)) User
+    (cond (ltb p (first_settings n)) DynamicLocks
+    (cond (ltb p (pwd_page n)) Settings
     Password))))))
 
 -- The table, row by row: N, length, last user page, dynamic lock, settings, PWD, PACK.
-pub record TableRow (n l lastUser lock settings settings' pwd pack : ℕ) : Type 0 where
+pub record TableRow (n l last_user lock settings settings' pwd pack : ℕ) : Type 0 where
   pub size : size_of l ≡ Pages n
-  pub pages : lockPage n ∷ firstSettings n ∷ secondSettings n ∷ pwdPage n ∷ packPage n ∷ [] ≡ lock ∷ settings ∷ settings' ∷ pwd ∷ pack ∷ []
-  pub regions : map (regionOf n) (0x04 ∷ lastUser ∷ lock ∷ settings ∷ settings' ∷ pwd ∷ pack ∷ n ∷ [])
+  pub pages : lock_page n ∷ first_settings n ∷ second_settings n ∷ pwd_page n ∷ pack_page n ∷ [] ≡ lock ∷ settings ∷ settings' ∷ pwd ∷ pack ∷ []
+  pub regions : map (region_of n) (0x04 ∷ last_user ∷ lock ∷ settings ∷ settings' ∷ pwd ∷ pack ∷ n ∷ [])
       ≡ User ∷ User ∷ DynamicLocks ∷ Settings ∷ Settings ∷ Password ∷ Password ∷ Outside ∷ []
 
 pub record TheTable : Type 0 where

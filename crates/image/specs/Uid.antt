@@ -8,12 +8,12 @@ unfoldable pub uid : List ℕ → ℕ → ℕ
 uid img i = cond (ltb i 3) (byte img 0 i) (byte img 1 (i - 3))
 
 -- the cascade tag that stands before UID 0-2 in selection
-abbrev pub cascadeTag : ℕ
-cascadeTag = 0x88
+abbrev pub cascade_tag : ℕ
+cascade_tag = 0x88
 
 -- "BCC0 is the exclusive-or of 88h and UID 0-2"
 unfoldable pub bcc0 : List ℕ → ℕ
-bcc0 img = bit_xor (bit_xor (bit_xor cascadeTag (uid img 0)) (uid img 1)) (uid img 2)
+bcc0 img = bit_xor (bit_xor (bit_xor cascade_tag (uid img 0)) (uid img 1)) (uid img 2)
 
 -- "BCC1 of UID 3-6"
 unfoldable pub bcc1 : List ℕ → ℕ

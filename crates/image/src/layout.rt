@@ -1,7 +1,7 @@
 // Sizes, regions, and the bytes of a page.
 ghost use Rattle.std.specs.Prelude.{◌≡◌, ℕ, ◌+◌, ◌*◌, ◌≤◌, ◌<◌, length};
 ghost use Rattle.std.proofs.lemmas.List.Edits.{sets};
-ghost use Rattle.image.specs.Layout.{size_of, byte, fourAt, pageAt, bytes_of, store, regionOf};
+ghost use Rattle.image.specs.Layout.{size_of, byte, four_at, page_at, bytes_of, store, region_of};
 
 // The size that an image's length tells.
 #[derive(Drop)]
@@ -36,7 +36,7 @@ pub enum Region {
 
 // The region of a page from 4 on, by its distance from the end.
 fn region_from_end(distance: usize) -> Region
-    ensures { (n p : ℕ) → 4 ≤ p → p + distance ≡ n → 0 < distance → result ≡ regionOf n p }
+    ensures { (n p : ℕ) → 4 ≤ p → p + distance ≡ n → 0 < distance → result ≡ region_of n p }
 {
     match distance {
         0..=2 => Region::Password,
@@ -47,7 +47,7 @@ fn region_from_end(distance: usize) -> Region
 }
 
 pub fn region_of(n: usize, page: usize) -> Region
-    ensures { result ≡ regionOf n page }
+    ensures { result ≡ region_of n page }
 {
     if n <= page {
         return Region::Outside;
@@ -80,7 +80,7 @@ pub struct Four {
 // The four bytes from `at` on.
 pub fn four_at(bytes: &[u8], at: usize) -> Four
     requires { (at ≤ 924) × (at + 4 ≤ length bytes.now) }
-    ensures { result ≡ fourAt bytes.now at }
+    ensures { result ≡ four_at bytes.now at }
 {
     Four {
         b0: bytes[at],
@@ -93,7 +93,7 @@ pub fn four_at(bytes: &[u8], at: usize) -> Four
 // The four bytes of a page.
 pub fn page_at(image: &[u8], page: usize) -> Four
     requires { (page ≤ 231) × (4 * page + 4 ≤ length image.now) }
-    ensures { result ≡ pageAt image.now page }
+    ensures { result ≡ page_at image.now page }
 {
     four_at(image, 4 * page)
 }

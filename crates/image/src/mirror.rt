@@ -1,7 +1,7 @@
 // The ASCII mirror: what READ and FAST_READ show of the UID and the counter in the user pages.
 ghost use Rattle.std.specs.Prelude.{◌≡◌, ◌+◌, ◌≤◌};
 ghost use Rattle.image.specs.Layout.{Fits};
-ghost use Rattle.image.specs.Mirror.{none, isChosen, chosen, wanted, text, mirrorFor, replaced, replacedPage};
+ghost use Rattle.image.specs.Mirror.{none, is_chosen, chosen, wanted, text, mirror_for, replaced, replaced_page};
 
 use crate::layout::{Four, byte, page_at};
 use crate::settings::count_readable;
@@ -28,7 +28,7 @@ fn none() -> Mirror
 // Whether the settings choose one: most boards have none.
 pub fn is_chosen(image: &[u8], n: usize) -> bool
     requires { Fits n image.now }
-    ensures { result ≡ isChosen n image.now }
+    ensures { result ≡ is_chosen n image.now }
 {
     64 <= byte(image, n - 4, 0)
 }
@@ -68,7 +68,7 @@ fn wanted(settings: Four) -> Mirror
 // The mirror that a reader sees, who is authenticated or not. It lies in the user pages; with the counter in it, the counter must be readable.
 pub fn mirror_for(image: &[u8], n: usize, authenticated: bool) -> Mirror
     requires { Fits n image.now }
-    ensures { (result ≡ mirrorFor n image.now authenticated) × (result.start + result.length ≤ 904) × (result.from + result.length ≤ 21) }
+    ensures { (result ≡ mirror_for n image.now authenticated) × (result.start + result.length ≤ 904) × (result.from + result.length ≤ 21) }
 {
     let m = wanted(page_at(image, n - 4));
     if m.start < 16 {
@@ -139,7 +139,7 @@ fn replaced(characters: &[u8; 21], m: Mirror, at: usize, b: u8) -> u8
 // The four bytes of a page through the mirror, which are otherwise shown as v.
 pub fn replaced_page(characters: &[u8; 21], m: Mirror, page: usize, v: Four) -> Four
     requires { (m.from + m.length ≤ 21) × (page ≤ 231) }
-    ensures { result ≡ replacedPage characters.now m page v }
+    ensures { result ≡ replaced_page characters.now m page v }
 {
     let at = 4 * page;
     Four {

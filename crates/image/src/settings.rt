@@ -2,7 +2,7 @@
 ghost use Rattle.std.specs.Prelude.{◌≡◌, ◌<◌};
 ghost use Rattle.locks.specs.Bits.{is_set};
 ghost use Rattle.image.specs.Layout.{Fits};
-ghost use Rattle.image.specs.Settings.{auth0, access, prot, settingsLocked, counterOn, counterGuarded, countReadable, authlim};
+ghost use Rattle.image.specs.Settings.{auth0, access, prot, settings_locked, counter_on, counter_guarded, count_readable, authlim};
 
 use crate::layout::byte;
 
@@ -36,14 +36,14 @@ pub fn prot(image: &[u8], n: usize) -> bool
 
 pub fn settings_locked(image: &[u8], n: usize) -> bool
     requires { Fits n image.now }
-    ensures { result ≡ settingsLocked n image.now }
+    ensures { result ≡ settings_locked n image.now }
 {
     access_bit(image, n, 6)
 }
 
 pub fn counter_on(image: &[u8], n: usize) -> bool
     requires { Fits n image.now }
-    ensures { result ≡ counterOn n image.now }
+    ensures { result ≡ counter_on n image.now }
 {
     access_bit(image, n, 4)
 }
@@ -51,7 +51,7 @@ pub fn counter_on(image: &[u8], n: usize) -> bool
 // Whether the counter is under password.
 fn counter_guarded(image: &[u8], n: usize) -> bool
     requires { Fits n image.now }
-    ensures { result ≡ counterGuarded n image.now }
+    ensures { result ≡ counter_guarded n image.now }
 {
     access_bit(image, n, 3)
 }
@@ -66,7 +66,7 @@ pub fn authlim(image: &[u8], n: usize) -> u8
 // Whether the counter may be shown to a reader that is authenticated or not.
 pub fn count_readable(image: &[u8], n: usize, authenticated: bool) -> bool
     requires { Fits n image.now }
-    ensures { result ≡ countReadable n image.now authenticated }
+    ensures { result ≡ count_readable n image.now authenticated }
 {
     if counter_on(image, n) {
         if counter_guarded(image, n) {

@@ -1,7 +1,7 @@
 // What reading shows.
 ghost use Rattle.std.specs.Prelude.{◌≡◌, ◌/◌, ◌%◌};
 ghost use Rattle.image.specs.Layout.{Fits};
-ghost use Rattle.image.specs.Shown.{shown, shownPage};
+ghost use Rattle.image.specs.Shown.{shown, shown_page};
 
 use crate::layout::{Four, page_at};
 
@@ -16,7 +16,7 @@ pub fn shown(image: &[u8], n: usize, at: usize) -> u8
 // The four bytes that reading shows of a page.
 pub fn shown_page(image: &[u8], n: usize, page: usize) -> Four
     requires { Fits n image.now }
-    ensures { result ≡ shownPage n image.now page }
+    ensures { result ≡ shown_page n image.now page }
 {
     if n - 2 <= page {
         return Four {

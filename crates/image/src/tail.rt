@@ -1,7 +1,7 @@
 // The tail: the counter and the failed-password count.
 ghost use Rattle.std.specs.Prelude.{◌≡◌, ◌≤◌};
-ghost use Rattle.image.specs.Layout.{Fits, pageAt, store};
-ghost use Rattle.image.specs.Tail.{failed, nextCount, counted, withFailed};
+ghost use Rattle.image.specs.Layout.{Fits, page_at, store};
+ghost use Rattle.image.specs.Tail.{failed, next_count, counted, with_failed};
 
 use crate::layout::{Four, byte, page_at, store};
 use basics::to_u32;
@@ -16,7 +16,7 @@ pub fn failed(image: &[u8], n: usize) -> u8
 
 pub fn set_failed(image: &mut [u8], n: usize, count: u8)
     requires { Fits n image.old }
-    ensures { image.new ≡ store image.old n (withFailed count (pageAt image.old n)) }
+    ensures { image.new ≡ store image.old n (with_failed count (page_at image.old n)) }
 {
     let mut tail = page_at(image, n);
     tail.b3 = count;
@@ -25,7 +25,7 @@ pub fn set_failed(image: &mut [u8], n: usize, count: u8)
 
 fn next_count(c: u32) -> u32
     requires { c ≤ 0xFFFFFF }
-    ensures { (result ≡ nextCount c) × (result ≤ 0xFFFFFF) }
+    ensures { (result ≡ next_count c) × (result ≤ 0xFFFFFF) }
 {
     if c < 0xFFFFFF { c + 1 } else { c }
 }
@@ -45,7 +45,7 @@ fn counted(tail: Four) -> Four
 // One more on the counter.
 pub fn count(image: &mut [u8], n: usize)
     requires { Fits n image.old }
-    ensures { image.new ≡ store image.old n (counted (pageAt image.old n)) }
+    ensures { image.new ≡ store image.old n (counted (page_at image.old n)) }
 {
     let tail = page_at(image, n);
     store(image, n, counted(tail));

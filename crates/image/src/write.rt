@@ -2,7 +2,7 @@
 ghost use Rattle.std.specs.Prelude.{◌≡◌, ◌<◌};
 ghost use Rattle.locks.specs.Locks.{Sized};
 ghost use Rattle.image.specs.Layout.{Fits};
-ghost use Rattle.image.specs.Write.{lockedBy, staticsWritten, capabilityWritten, dynamicsWritten, write};
+ghost use Rattle.image.specs.Write.{locked_by, statics_written, capability_written, dynamics_written, write};
 
 use crate::layout::{Four, Region, page_at, region_of, store};
 use basics::{high_byte, low_byte, low_first};
@@ -11,7 +11,7 @@ use locks::LockBit;
 // The bit that is set and locks a page, page 3 or a user page, or none.
 pub fn locked_by(image: &[u8], n: usize, page: usize) -> LockBit
     requires { Fits n image.now }
-    ensures { result ≡ lockedBy n image.now page }
+    ensures { result ≡ locked_by n image.now page }
 {
     let statics = page_at(image, 2);
     let dynamics = page_at(image, n - 5);
@@ -24,7 +24,7 @@ pub fn locked_by(image: &[u8], n: usize, page: usize) -> LockBit
 }
 
 fn statics_written(old: Four, d: Four) -> Four
-    ensures { result ≡ staticsWritten old d }
+    ensures { result ≡ statics_written old d }
 {
     let after = locks::static_gain(low_first(old.b2, old.b3), low_first(d.b2, d.b3));
     Four {
@@ -36,7 +36,7 @@ fn statics_written(old: Four, d: Four) -> Four
 }
 
 fn capability_written(old: Four, d: Four) -> Four
-    ensures { result ≡ capabilityWritten old d }
+    ensures { result ≡ capability_written old d }
 {
     Four {
         b0: old.b0 | d.b0,
@@ -48,7 +48,7 @@ fn capability_written(old: Four, d: Four) -> Four
 
 fn dynamics_written(n: usize, old: Four, d: Four) -> Four
     requires { Sized n }
-    ensures { result ≡ dynamicsWritten n old d }
+    ensures { result ≡ dynamics_written n old d }
 {
     let after = locks::dynamic_gain(n, old.b2, low_first(old.b0, old.b1), low_first(d.b0, d.b1));
     Four {

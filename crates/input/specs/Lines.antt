@@ -7,8 +7,8 @@ unfoldable pub unended : List ℕ → List ℕ
 unended line = let last = length line - 1 in cond (eqb (get_or line last 0) 13) (take last line) line
 
 -- "Empty lines, and lines that begin with `#`, are skipped and answered by nothing". `#` is 35.
-unfoldable pub isSkipped : List ℕ → Bool
-isSkipped line = cond (eqb (length line) 0) true (eqb (get_or line 0 0) 35)
+unfoldable pub is_skipped : List ℕ → Bool
+is_skipped line = cond (eqb (length line) 0) true (eqb (get_or line 0 0) 35)
 
 -- what a program keeps from line to line: at the start, and behind a line; and the line that answers a line
 pub record Program (Kept : Type 0) : Type 0 where
@@ -17,19 +17,19 @@ pub record Program (Kept : Type 0) : Type 0 where
   pub next : Kept → List ℕ → Kept
 
 -- the whole of a line
-unfoldable pub answerTo : {Kept : Type 0} → Program Kept → Kept → List ℕ → List ℕ
-answerTo p k line = let l = unended line in cond (isSkipped l) [] (p.answer k l)
+unfoldable pub answer_to : {Kept : Type 0} → Program Kept → Kept → List ℕ → List ℕ
+answer_to p k line = let l = unended line in cond (is_skipped l) [] (p.answer k l)
 
-unfoldable pub keptAfter : {Kept : Type 0} → Program Kept → Kept → List ℕ → Kept
-keptAfter p k line = let l = unended line in cond (isSkipped l) k (p.next k l)
+unfoldable pub kept_after : {Kept : Type 0} → Program Kept → Kept → List ℕ → Kept
+kept_after p k line = let l = unended line in cond (is_skipped l) k (p.next k l)
 
 -- ---- bytes, up to their first newline, which is 10
 
-abbrev pub firstLine : List ℕ → List ℕ
-firstLine a = take (index_of 10 a) a
+abbrev pub first_line : List ℕ → List ℕ
+first_line a = take (index_of 10 a) a
 
-abbrev pub hasNewline : List ℕ → Bool
-hasNewline a = ltb (index_of 10 a) (length a)
+abbrev pub has_newline : List ℕ → Bool
+has_newline a = ltb (index_of 10 a) (length a)
 
-abbrev pub behindLine : List ℕ → List ℕ
-behindLine a = drop (index_of 10 a + 1) a
+abbrev pub behind_line : List ℕ → List ℕ
+behind_line a = drop (index_of 10 a + 1) a

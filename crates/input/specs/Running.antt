@@ -1,6 +1,6 @@
 -- A program over its whole input, line by line. Assumes nothing.
 use Rattle.std.specs.Prelude.{ℕ, ◌<◌, ◌≡◌, Bool, true, false, cond, ◌||◌, List, [], ◌∷◌, ◌++◌, eqb, length, take}
-use Rattle.input.specs.Lines.{Program, answerTo, keptAfter, firstLine, hasNewline}
+use Rattle.input.specs.Lines.{Program, answer_to, kept_after, first_line, has_newline}
 use Rattle.input.specs.Reading.{longest, kept, ahead, Moves}
 use Rattle.input.specs.declared.Input.{Input}
 
@@ -13,10 +13,10 @@ pub record Typing (Kept : Type 0) : Type 0 where
 
 -- more characters of the line come, and its end with them or not: what is kept then, and what is said
 abbrev pub came : {Kept : Type 0} → Program Kept → Typing Kept → List ℕ → Bool → Typing Kept
-came p t xs ended = cond ended (record { kept = keptAfter p t.kept (t.line ++ xs); line = [] }) (record { kept = t.kept; line = t.line ++ xs })
+came p t xs ended = cond ended (record { kept = kept_after p t.kept (t.line ++ xs); line = [] }) (record { kept = t.kept; line = t.line ++ xs })
 
 abbrev pub told : {Kept : Type 0} → Program Kept → Typing Kept → List ℕ → Bool → List ℕ
-told p t xs ended = cond ended (answerTo p t.kept (t.line ++ xs)) []
+told p t xs ended = cond ended (answer_to p t.kept (t.line ++ xs)) []
 
 -- "it reads commands, one a line": a newline, which is 10, ends the line, and any other byte is one more character of it
 unfoldable pub typed : {Kept : Type 0} → Program Kept → Typing Kept → List ℕ → Typing Kept
@@ -27,8 +27,8 @@ abbrev pub start : {Kept : Type 0} → Program Kept → Typing Kept
 start p = record { kept = p.opening; line = [] }
 
 -- "The end of the input ends the program, and a last line without its newline counts": what is left of it is its last line
-unfoldable pub keptAtEnd : {Kept : Type 0} → Program Kept → List ℕ → Kept
-keptAtEnd p all = (came p (typed p (start p) all) [] true).kept
+unfoldable pub kept_at_end : {Kept : Type 0} → Program Kept → List ℕ → Kept
+kept_at_end p all = (came p (typed p (start p) all) [] true).kept
 
 -- ---- one turn
 
@@ -44,8 +44,8 @@ pub record Stands {Kept : Type 0} (t : Typing Kept) (k : Kept) (i : Input) (buf 
 
 -- One turn, from t with a ahead: the line ends with a newline, or with the input; the first `said` bytes of out are said.
 pub record Turns {Kept : Type 0} (p : Program Kept) (t : Typing Kept) (a : List ℕ) (k : Kept) (i : Input) (said : ℕ) (buf chunk out : List ℕ) : Type 0 where
-  pub stands : Stands (came p t (firstLine a) (hasNewline a || i.over)) k i buf
-  pub text : take said out ≡ told p t (firstLine a) (hasNewline a || i.over)
+  pub stands : Stands (came p t (first_line a) (has_newline a || i.over)) k i buf
+  pub text : take said out ≡ told p t (first_line a) (has_newline a || i.over)
   pub moves : Moves a i chunk
 
 -- One turn, wherever the program stands: k, i, buf and chunk before it, k', i', buf', chunk' and out behind it.
@@ -65,4 +65,4 @@ pub record Reached {Kept : Type 0} (p : Program Kept) (k : Kept) (i : Input) (bu
 -- It stands behind the end of an input.
 pub record AtEnd {Kept : Type 0} (p : Program Kept) (k : Kept) : Type 0 where
   pub all : List ℕ
-  pub kept : k ≡ keptAtEnd p all
+  pub kept : k ≡ kept_at_end p all

@@ -1,7 +1,7 @@
 // Standard input, line by line. What was read last stands in a chunk, and the line that is being gathered in a line
 // buffer. A line that fills the buffer is too long for a command, and what is behind that is dropped.
 ghost use Rattle.std.specs.Prelude.{◌≡◌, ◌++◌, ◌-◌, ◌<◌, ◌≤◌, length, take, drop};
-ghost use Rattle.input.specs.Lines.{unended, isSkipped};
+ghost use Rattle.input.specs.Lines.{unended, is_skipped};
 ghost use Rattle.input.specs.Reading.{Reads, Refills, Begins, Advances, ahead as Reading·ahead};
 
 use bytes::scan::find;
@@ -150,7 +150,7 @@ pub fn unended(line: &[u8], len: usize) -> usize
 // Whether the line that the first `len` bytes of `line` are is answered by nothing: an empty line, or a comment.
 pub fn is_skipped(line: &[u8], len: usize) -> bool
     requires { len ≤ length line.now }
-    ensures { result ≡ isSkipped (take len line.now) }
+    ensures { result ≡ is_skipped (take len line.now) }
 {
     if len == 0 {
         return true;

@@ -2,7 +2,7 @@
 use Rattle.std.specs.Prelude.{ℕ, ◌≤◌, ◌≡◌, List, [], ◌∷◌, take, get_or}
 use Rattle.words.specs.Text.{text}
 use Rattle.words.specs.Word.{first_of}
-use Rattle.words.specs.Args.{Said, saidIn}
+use Rattle.words.specs.Args.{Said, said_in}
 use Rattle.words.specs.Rows.{Named, asks, row_in}
 use Rattle.words.specs.declared.args.Kind.{Kind}
 use Rattle.words.specs.declared.args.Kind.TheVariants as kind
@@ -40,28 +40,28 @@ commands =
     ∷ []
 
 -- no command: it asks for four arguments, and its verb means nothing
-abbrev pub noCommand : Row
-noCommand = (verb.Help, (4, nothing, nothing, nothing))
+abbrev pub no_command : Row
+no_command = (verb.Help, (4, nothing, nothing, nothing))
 
 unfoldable pub row_of : List ℕ → Row
-row_of w = row_in noCommand commands w
+row_of w = row_in no_command commands w
 
 -- ---- a whole line
 
-abbrev pub verbOf : List ℕ → Verb
-verbOf line = (row_of (first_of line)).0
+abbrev pub verb_of : List ℕ → Verb
+verb_of line = (row_of (first_of line)).0
 
 -- "18,597 characters; a longer one is too long"
 abbrev pub said_of : List ℕ → Said
-said_of line = saidIn 18597 (row_of (first_of line)).1 line
+said_of line = said_in 18597 (row_of (first_of line)).1 line
 
 -- ---- how much a command may ask for, so that it fits the buffers
 
 -- room for the bytes of all arguments of a line
-abbrev pub sentRoom : ℕ
-sentRoom = 1100
+abbrev pub sent_room : ℕ
+sent_room = 1100
 
 -- the numbers that are there may be looked up among all three
 pub record AskedFits (r : Asked) : Type 0 where
-  pub end : r.given.end ≤ sentRoom
+  pub end : r.given.end ≤ sent_room
   pub numbers : (j : ℕ) → get_or (take r.given.count r.given.numbers) j 0 ≡ get_or r.given.numbers j 0

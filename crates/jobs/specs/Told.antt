@@ -2,7 +2,7 @@
 use Rattle.std.specs.Prelude.{ℕ, ◌≤◌, List, [], ◌∷◌, take}
 use Rattle.words.specs.Text.{text}
 use Rattle.laying.specs.Parts.{Part, word, number, hex}
-use Rattle.jobs.specs.Said.{sentRoom}
+use Rattle.jobs.specs.Said.{sent_room}
 use Rattle.jobs.specs.declared.write.Answer.{Answer}
 use Rattle.jobs.specs.declared.write.Answer.TheVariants as answer
 
@@ -14,9 +14,9 @@ pub data Told : Type 0 where
   area : List ℕ → Told
   refused : ℕ → Told
   help : Told
-  noSuchCommand : Told
-  notSoWritten : Told
-  tooLong : Told
+  no_such_command : Told
+  not_so_written : Told
+  too_long : Told
 
 -- the parts of an answer's line: "`live WATTS`, `old WATTS`, `ahead WATTS`, or `refused K`"; "`area HEX`, or `refused K`": an area that is told has
 -- bytes, so that no `-` is needed; "`help` names the commands", each with the words that it takes; "any other line than those below is answered by
@@ -28,9 +28,9 @@ parts_of (ahead w) = word (text "ahead ") ∷ number w ∷ []
 parts_of (area xs) = word (text "area ") ∷ hex xs ∷ []
 parts_of (refused k) = word (text "refused ") ∷ number k ∷ []
 parts_of help = word (text "commands: screen SECONDS IMAGE, reading SECONDS WATTS AREA, help") ∷ []
-parts_of noSuchCommand = word (text "error: no such command") ∷ []
-parts_of notSoWritten = word (text "error: not how this command is written") ∷ []
-parts_of tooLong = word (text "error: line too long") ∷ []
+parts_of no_such_command = word (text "error: no such command") ∷ []
+parts_of not_so_written = word (text "error: not how this command is written") ∷ []
+parts_of too_long = word (text "error: line too long") ∷ []
 
 -- ---- what the code hands out, and the buffer of the line's bytes
 
@@ -41,13 +41,13 @@ tells (answer.Ahead w) xs = ahead w
 tells (answer.Area n) xs = area (take n xs)
 tells (answer.Refused k) xs = refused k
 tells answer.Help xs = help
-tells answer.NoSuchCommand xs = noSuchCommand
-tells answer.NotSoWritten xs = notSoWritten
-tells answer.TooLong xs = tooLong
+tells answer.NoSuchCommand xs = no_such_command
+tells answer.NotSoWritten xs = not_so_written
+tells answer.TooLong xs = too_long
 
 -- an answer has no more bytes than the buffer
 abbrev pub AnswerFits : Answer → Type 0
-AnswerFits (answer.Area n) = n ≤ sentRoom
+AnswerFits (answer.Area n) = n ≤ sent_room
 AnswerFits (answer.Live w) = Unit
 AnswerFits (answer.Old w) = Unit
 AnswerFits (answer.Ahead w) = Unit
@@ -58,5 +58,5 @@ AnswerFits answer.NotSoWritten = Unit
 AnswerFits answer.TooLong = Unit
 
 -- room for the longest line
-abbrev pub outRoom : ℕ
-outRoom = 2206
+abbrev pub out_room : ℕ
+out_room = 2206

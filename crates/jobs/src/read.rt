@@ -1,7 +1,7 @@
 // Reading a line: the command that its first word names, and its arguments.
 ghost use Rattle.std.specs.Prelude.{◌≡◌, ◌≤◌, length, take};
-ghost use Rattle.words.specs.Args.{kindsOf, room_for, saidBy};
-ghost use Rattle.jobs.specs.Said.{row_of, verbOf, said_of, sentRoom, AskedFits};
+ghost use Rattle.words.specs.Args.{kinds_of, room_for, said_by};
+ghost use Rattle.jobs.specs.Said.{row_of, verb_of, said_of, sent_room, AskedFits};
 
 use words::args::{Given, Kind, Shape, args_of};
 use words::word::{packed, word_end};
@@ -55,7 +55,7 @@ const AREA: Kind = IMAGE;
 
 // The row of a word. Where it is no command the shape says so, and the verb means nothing.
 fn row_of(word: &[u8]) -> Row
-    ensures result_bound { room_for (kindsOf result.1) ≤ sentRoom }
+    ensures result_bound { room_for (kinds_of result.1) ≤ sent_room }
     ensures value { result ≡ row_of word.now }
 {
     let k = packed(word);
@@ -71,7 +71,7 @@ fn row_of(word: &[u8]) -> Row
 pub fn asked_of(line: &[u8], len: usize, bytes: &mut Sent) -> Asked
     requires { len ≤ length line.now }
     ensures asked_fits { AskedFits result }
-    ensures verb_value { (result.verb ≡ verbOf (take len line.now)) × (saidBy result.given bytes.new ≡ said_of (take len line.now)) }
+    ensures verb_value { (result.verb ≡ verb_of (take len line.now)) × (said_by result.given bytes.new ≡ said_of (take len line.now)) }
 {
     asked_in(&line[0..len], bytes)
 }
@@ -79,7 +79,7 @@ pub fn asked_of(line: &[u8], len: usize, bytes: &mut Sent) -> Asked
 // What a whole line asks for.
 fn asked_in(text: &[u8], bytes: &mut Sent) -> Asked
     ensures asked_fits { AskedFits result }
-    ensures verb_value { (result.verb ≡ verbOf text.now) × (saidBy result.given bytes.new ≡ said_of text.now) }
+    ensures verb_value { (result.verb ≡ verb_of text.now) × (said_by result.given bytes.new ≡ said_of text.now) }
 {
     let end = word_end(text, 0);
     let row = row_of(&text[0..end]);

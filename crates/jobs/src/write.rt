@@ -1,8 +1,8 @@
 // Writing the line that answers a line, at the start of a buffer.
 ghost use Rattle.std.specs.Prelude.{◌≤◌, take};
 ghost use Rattle.laying.specs.Parts.{Line};
-ghost use Rattle.jobs.specs.Said.{sentRoom};
-ghost use Rattle.jobs.specs.Told.{area as Told·area, parts_of, tells, outRoom, AnswerFits};
+ghost use Rattle.jobs.specs.Said.{sent_room};
+ghost use Rattle.jobs.specs.Told.{area as Told·area, parts_of, tells, out_room, AnswerFits};
 
 use crate::read::Sent;
 use laying::{fixed, numbered, put, put_hex};
@@ -26,8 +26,8 @@ pub enum Answer {
 }
 
 fn area_line(out: &mut Out, bytes: &Sent, n: usize) -> usize
-    requires { n ≤ sentRoom }
-    ensures upper_bound { result ≤ outRoom }
+    requires { n ≤ sent_room }
+    ensures upper_bound { result ≤ out_room }
     ensures line { Line (parts_of (Told·area (take n bytes.now))) result out.new }
 {
     let a = put(out, 0, b"area ");
@@ -38,7 +38,7 @@ fn area_line(out: &mut Out, bytes: &Sent, n: usize) -> usize
 // The line that gives an answer; answers its length.
 pub fn line_of(out: &mut Out, told: Answer, bytes: &Sent) -> usize
     requires { AnswerFits told }
-    ensures upper_bound { result ≤ outRoom }
+    ensures upper_bound { result ≤ out_room }
     ensures line { Line (parts_of (tells told bytes.now)) result out.new }
 {
     match told {

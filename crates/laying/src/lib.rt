@@ -1,7 +1,7 @@
 // Laying the line that answers a line into a buffer, part by part: words, numbers, bytes. All that put something at a place answer the place
 // behind it.
 ghost use Rattle.std.specs.Prelude.{◌≡◌, ◌∷◌, [], ◌+◌, ◌*◌, ◌/◌, ◌%◌, ◌≤◌, ◌<◌, length, take};
-ghost use Rattle.laying.specs.Parts.{word as Parts·word, flagged as Parts·flagged, number as Parts·number, four as Parts·four, hex as Parts·hex, tail as Parts·tail, lettersOf, Laid, Line};
+ghost use Rattle.laying.specs.Parts.{word as Parts·word, flagged as Parts·flagged, number as Parts·number, four as Parts·four, hex as Parts·hex, tail as Parts·tail, letters_of, Laid, Line};
 
 use basics::{high_char, low_char};
 use bytes::copy;
@@ -34,7 +34,7 @@ pub fn put_letters(out: &mut [u8], at: usize, word: Letters) -> usize
     requires word_bound { word.0 ≤ 7 }
     requires at_in_bounds { at + 7 ≤ length out.old }
     ensures upper_bound { result ≤ at + 7 }
-    ensures laid { Laid (Parts·word (lettersOf word)) at result out.old out.new }
+    ensures laid { Laid (Parts·word (letters_of word)) at result out.old out.new }
 {
     let letters = word.1;
     put_seven(out, at, &letters, word.0)

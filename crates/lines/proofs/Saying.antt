@@ -5,32 +5,32 @@ use mathlib.Core.Bool.{true}
 use mathlib.Core.List.{List}
 use native.Mathlib.Omega.{arith}
 use lib.ListN.{take, drop}
-use Rattle.words.specs.Pack.{packedOf, readable}
-use Rattle.words.specs.Word.{wordEnd, first_of}
-use Rattle.words.specs.Args.{Said, saidIn, kindsOf, room_for, GivenFits}
+use Rattle.words.specs.Pack.{packed_of, readable}
+use Rattle.words.specs.Word.{word_end, first_of}
+use Rattle.words.specs.Args.{Said, said_in, kinds_of, room_for, GivenFits}
 use Rattle.words.specs.declared.args.Given.{Given}
 use Rattle.words.proofs.Whole.{by_first}
-use Rattle.words.proofs.Arguing.{looked-up}
-use Rattle.words.proofs.Rows.{row_at, Others, known_in, unknown-in, each_row, ◌and◌}
-use Rattle.lines.specs.Said.{commands, noCommand, row_of, verbOf, said_of, Fits, AskedFits}
+use Rattle.words.proofs.Arguing.{looked_up}
+use Rattle.words.proofs.Rows.{row_at, Others, known_in, unknown_in, each_row, ◌and◌}
+use Rattle.lines.specs.Said.{commands, no_command, row_of, verb_of, said_of, Fits, AskedFits}
 use Rattle.lines.specs.declared.read.Row.{Row}
 
 -- ---- the table
 
-module _ (w : List ℕ) (k : ℕ) (number : k ≡ packedOf w) (bytes : readable w k ≡ true) where
-  pub row-known : (n : ℕ) (r : Row) → k ≡ n → r ≡ row_at noCommand commands n → r ≡ row_of w
+module _ (w : List ℕ) (k : ℕ) (number : k ≡ packed_of w) (bytes : readable w k ≡ true) where
+  pub row_known : (n : ℕ) (r : Row) → k ≡ n → r ≡ row_at no_command commands n → r ≡ row_of w
   unfolding row_of commands
-  row-known n r e h = known_in noCommand w k number bytes commands refl n r e h
+  row_known n r e h = known_in no_command w k number bytes commands refl n r e h
 
-  pub row-unknown : Others noCommand Unit k commands → noCommand ≡ row_of w
+  pub row_unknown : Others no_command Unit k commands → no_command ≡ row_of w
   unfolding row_of commands
-  row-unknown o = unknown-in noCommand w k number bytes commands refl o
+  row_unknown o = unknown_in no_command w k number bytes commands refl o
 
 -- what the arguments of each row may be
 row_fits : (w : List ℕ) (g : Given) → GivenFits (row_of w).1 g → Fits (row_of w).0 g
 unfolding row_of commands
 row_fits =
-    each_row noCommand (λ (r : Row). (g : Given) → GivenFits r.1 g → Fits r.0 g) commands (
+    each_row no_command (λ (r : Row). (g : Given) → GivenFits r.1 g → Fits r.0 g) commands (
     (λ g f. f.end)
     and (λ g f. f.numbers.below 0)
     and (λ g f. tt)
@@ -52,20 +52,20 @@ row_fits =
 
 -- ---- a whole line
 
-module _ (w : List ℕ) (end : ℕ) (row : Row) (g : Given) (e : end ≡ 0 + wordEnd (drop 0 w)) (r : row ≡ row_of (take (end - 0) (drop 0 w))) where
+module _ (w : List ℕ) (end : ℕ) (row : Row) (g : Given) (e : end ≡ 0 + word_end (drop 0 w)) (r : row ≡ row_of (take (end - 0) (drop 0 w))) where
   row_is : row ≡ row_of (first_of w)
   row_is = by_first row_of w end row e r
 
-  pub verb-told : row.0 ≡ verbOf w
-  verb-told = ap (λ (x : Row). x.0) row_is
+  pub verb_told : row.0 ≡ verb_of w
+  verb_told = ap (λ (x : Row). x.0) row_is
 
-  pub line-told : (s : Said) → s ≡ saidIn 16397 row.1 w → s ≡ said_of w
-  line-told s h = h ∙ ap (λ (x : Row). saidIn 16397 x.1 w) row_is
+  pub line_told : (s : Said) → s ≡ said_in 16397 row.1 w → s ≡ said_of w
+  line_told s h = h ∙ ap (λ (x : Row). said_in 16397 x.1 w) row_is
 
-  pub line-fits : room_for (kindsOf row.1) ≤ 8192 → GivenFits row.1 g → AskedFits (record { verb = row.0; given = g })
-  line-fits h f =
+  pub line_fits : room_for (kinds_of row.1) ≤ 8192 → GivenFits row.1 g → AskedFits (record { verb = row.0; given = g })
+  line_fits h f =
       record {
         end = omega (arith, f.end);
-        numbers = looked-up row.1 g.count g.numbers f.numbers;
+        numbers = looked_up row.1 g.count g.numbers f.numbers;
         verb = subst⁻¹ (λ (x : Row). GivenFits x.1 g → Fits x.0 g) r (row_fits (take (end - 0) (drop 0 w)) g) f;
       }

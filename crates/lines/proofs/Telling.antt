@@ -5,36 +5,36 @@ use mathlib.Core.List.{List, [], ◌++◌, append-nil}
 use native.Mathlib.Omega.{arith}
 use lib.ListN.{length, take, drop, length-take, length-drop, drop_of_length-le}
 use lib.Seq.{length-take-le, take_all, take-add, drop_at}
-use Rattle.basics.proofs.Choice.{by-case}
-use Rattle.laying.specs.Parts.{word, tail, partText, lettersOf, Laid, Line}
+use Rattle.basics.proofs.Choice.{by_case}
+use Rattle.laying.specs.Parts.{word, tail, part_text, letters_of, Laid, Line}
 use Rattle.laying.specs.declared.Letters.{Letters}
-use Rattle.lines.specs.Told.{wordText, pageIn, parts_of, tells, AnswerFits}
+use Rattle.lines.specs.Told.{word_text, page_in, parts_of, tells, AnswerFits}
 use Rattle.lines.specs.declared.write.Word.{Word}
 use Rattle.lines.specs.declared.write.Answer.{Answer}
 use Rattle.lines.specs.declared.write.Answer.TheVariants as answer
 
 -- an answer that is known to be one of the answers
 module _ (told k : Answer) (e : told ≡ k) where
-  pub told-by : (buf img out : List ℕ) (r : ℕ) → Line (parts_of (tells k buf img)) r out → Line (parts_of (tells told buf img)) r out
-  told-by buf img out r l = subst (λ (a : Answer). Line (parts_of (tells a buf img)) r out) (sym e) l
+  pub told_by : (buf img out : List ℕ) (r : ℕ) → Line (parts_of (tells k buf img)) r out → Line (parts_of (tells told buf img)) r out
+  told_by buf img out r l = subst (λ (a : Answer). Line (parts_of (tells a buf img)) r out) (sym e) l
 
 module _ (told : Answer) (fits : AnswerFits told) where
   pub bits_fit : (n : ℕ) → told ≡ answer.Bits n → n ≤ 8192
   bits_fit n e = subst AnswerFits e fits
 
-  pub shown-fits : (n : ℕ) → told ≡ answer.Shown n → n ≤ 1024
-  shown-fits n e = subst AnswerFits e fits
+  pub shown_fits : (n : ℕ) → told ≡ answer.Shown n → n ≤ 1024
+  shown_fits n e = subst AnswerFits e fits
 
-  pub recalled-fits : (n : ℕ) → told ≡ answer.Recalled n → n ≤ 1024
-  recalled-fits n e = subst AnswerFits e fits
+  pub recalled_fits : (n : ℕ) → told ≡ answer.Recalled n → n ≤ 1024
+  recalled_fits n e = subst AnswerFits e fits
 
-  pub page-fits : (p n : ℕ) → told ≡ answer.Page p n → n ≤ 1024
-  page-fits p n e = subst AnswerFits e fits
+  pub page_fits : (p n : ℕ) → told ≡ answer.Page p n → n ≤ 1024
+  page_fits p n e = subst AnswerFits e fits
 
 -- ---- words
 
-pub spelt : (w k : Word) (l : Letters) → w ≡ k → lettersOf l ≡ wordText k → lettersOf l ≡ wordText w
-spelt w k l e h = by-case wordText w k (lettersOf l) e h
+pub spelt : (w k : Word) (l : Letters) → w ≡ k → letters_of l ≡ word_text k → letters_of l ≡ word_text w
+spelt w k l e h = by_case word_text w k (letters_of l) e h
 
 pub worded : (l l' before after : List ℕ) (at r : ℕ) → l ≡ l' → Laid (word l) at r before after → Laid (word l') at r before after
 worded l l' before after at r e d = subst (λ (x : List ℕ). Laid (word x) at r before after) e d
@@ -43,10 +43,10 @@ worded l l' before after at r e d = subst (λ (x : List ℕ). Laid (word x) at r
 
 -- the bytes of a page that the first `size` bytes of a buffer have: q is the page's number as the code has it
 module _ (img before : List ℕ) (p q at size : ℕ) (same : q ≡ p) where
-  pub page-none : size ≤ 4 * q → Laid (tail (pageIn p (take size img))) at at before before
-  page-none h =
+  pub page_none : size ≤ 4 * q → Laid (tail (page_in p (take size img))) at at before before
+  page_none h =
       let few : length (take size img) ≤ 4 * p = simp length-take (omega arith) in
-      record { front = sym (append-nil (take at before)) ∙ ap (λ (l : List ℕ). take at before ++ partText (tail (take 4 l))) (sym (drop_of_length-le (take size img) few)) }
+      record { front = sym (append-nil (take at before)) ∙ ap (λ (l : List ℕ). take at before ++ part_text (tail (take 4 l))) (sym (drop_of_length-le (take size img) few)) }
 
   module _ (after : List ℕ) (r : ℕ) (starts : 4 * q < size) (room : size ≤ length img) where
     abbrev left : List ℕ
@@ -63,11 +63,11 @@ module _ (img before : List ℕ) (p q at size : ℕ) (same : q ≡ p) where
         ∙ drop_at (take (4 * q) img) left (4 * q) (length-take-le (4 * q) img h)
         )
 
-    pub page-whole : Laid (tail (take 4 left)) at r before after → Laid (tail (pageIn p (take size img))) at r before after
-    page-whole d = subst (λ (l : List ℕ). Laid (tail (take 4 l)) at r before after) cut d
+    pub page_whole : Laid (tail (take 4 left)) at r before after → Laid (tail (page_in p (take size img))) at r before after
+    page_whole d = subst (λ (l : List ℕ). Laid (tail (take 4 l)) at r before after) cut d
 
-    pub page-short : size - 4 * q < 4 → Laid (tail (take (size - 4 * q) left)) at r before after → Laid (tail (pageIn p (take size img))) at r before after
-    page-short h d =
+    pub page_short : size - 4 * q < 4 → Laid (tail (take (size - 4 * q) left)) at r before after → Laid (tail (page_in p (take size img))) at r before after
+    page_short h d =
         let a : length left ≤ size - 4 * q = simp length-take (omega arith) in
         let b : length left ≤ 4 = omega arith in
-        page-whole (subst (λ (l : List ℕ). Laid (tail l) at r before after) (take_all (size - 4 * q) left a ∙ sym (take_all 4 left b)) d)
+        page_whole (subst (λ (l : List ℕ). Laid (tail l) at r before after) (take_all (size - 4 * q) left a ∙ sym (take_all 4 left b)) d)

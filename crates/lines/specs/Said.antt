@@ -3,7 +3,7 @@ use Rattle.std.specs.Prelude.{ℕ, ◌≤◌, ◌≡◌, List, [], ◌∷◌, ta
 use Rattle.words.specs.Text.{text}
 use Rattle.words.specs.Pack.{pack}
 use Rattle.words.specs.Word.{first_of}
-use Rattle.words.specs.Args.{Said, saidIn}
+use Rattle.words.specs.Args.{Said, said_in}
 use Rattle.words.specs.Rows.{Named, asks, row_in}
 use Rattle.words.specs.declared.args.Kind.{Kind}
 use Rattle.words.specs.declared.args.Kind.TheVariants as kind
@@ -27,8 +27,8 @@ abbrev pub kilo : Kind
 kilo = kind.Number 10 1 5 1024
 
 -- Q-1: "of N bytes, 0 to 16,384"
-abbrev pub memoryRoom : Kind
-memoryRoom = kind.Number 10 1 5 16384
+abbrev pub memory_room : Kind
+memory_room = kind.Number 10 1 5 16384
 
 -- Q-1: "`recall HHHH N`": the four digits of an address
 abbrev pub address : Kind
@@ -39,59 +39,59 @@ abbrev pub byte : Kind
 byte = kind.Number 16 2 2 255
 
 -- "`read ack`, `read nak`"
-abbrev pub ackNak : Kind
-ackNak = kind.Either (pack (text "ack")) (pack (text "nak"))
+abbrev pub ack_nak : Kind
+ack_nak = kind.Either (pack (text "ack")) (pack (text "nak"))
 
 -- "this image, of 0 to 1,024 bytes"
-abbrev pub imageHex : Kind
-imageHex = kind.Hex 1024
+abbrev pub image_hex : Kind
+image_hex = kind.Hex 1024
 
 -- "`show HH`": one byte
-abbrev pub pageHex : Kind
-pageHex = kind.Hex 1
+abbrev pub page_hex : Kind
+page_hex = kind.Hex 1
 
 -- "HEX has at most 8,192 bytes"
-abbrev pub frameHex : Kind
-frameHex = kind.Hex 8192
+abbrev pub frame_hex : Kind
+frame_hex = kind.Hex 8192
 
 -- ---- the commands: a word, its verb, how many of its arguments must be there, and the arguments
 
 unfoldable pub commands : List (Named Row)
 commands =
-    asks (text "image") (verb.Image, (0, imageHex, nothing, nothing))
+    asks (text "image") (verb.Image, (0, image_hex, nothing, nothing))
     ∷ asks (text "buffer") (verb.Buffer, (1, kilo, nothing, nothing))
     ∷ asks (text "field") (verb.Field, (0, nothing, nothing, nothing))
-    ∷ asks (text "frame") (verb.Frame, (1, numeral, frameHex, nothing))
-    ∷ asks (text "parity") (verb.Parity, (1, numeral, frameHex, nothing))
+    ∷ asks (text "frame") (verb.Frame, (1, numeral, frame_hex, nothing))
+    ∷ asks (text "parity") (verb.Parity, (1, numeral, frame_hex, nothing))
     ∷ asks (text "start") (verb.Start, (0, nothing, nothing, nothing))
     ∷ asks (text "stop") (verb.Stop, (0, nothing, nothing, nothing))
     ∷ asks (text "send") (verb.Send, (1, byte, nothing, nothing))
-    ∷ asks (text "read") (verb.Read, (1, ackNak, nothing, nothing))
+    ∷ asks (text "read") (verb.Read, (1, ack_nak, nothing, nothing))
     ∷ asks (text "event") (verb.Event, (2, numeral, byte, nothing))
     -- `show` alone, and `show HH`
-    ∷ asks (text "show") (verb.Show, (0, pageHex, nothing, nothing))
+    ∷ asks (text "show") (verb.Show, (0, page_hex, nothing, nothing))
     ∷ asks (text "help") (verb.Help, (0, nothing, nothing, nothing))
     ∷ asks (text "tag") (verb.Tag, (0, nothing, nothing, nothing))
     ∷ asks (text "bus") (verb.Bus, (0, nothing, nothing, nothing))
-    ∷ asks (text "memory") (verb.Memory, (1, memoryRoom, nothing, nothing))
+    ∷ asks (text "memory") (verb.Memory, (1, memory_room, nothing, nothing))
     ∷ asks (text "recall") (verb.Recall, (2, address, kilo, nothing))
     ∷ []
 
 -- no command: it asks for four arguments, and its verb means nothing
-abbrev pub noCommand : Row
-noCommand = (verb.Help, (4, nothing, nothing, nothing))
+abbrev pub no_command : Row
+no_command = (verb.Help, (4, nothing, nothing, nothing))
 
 unfoldable pub row_of : List ℕ → Row
-row_of w = row_in noCommand commands w
+row_of w = row_in no_command commands w
 
 -- ---- a whole line
 
-abbrev pub verbOf : List ℕ → Verb
-verbOf line = (row_of (first_of line)).0
+abbrev pub verb_of : List ℕ → Verb
+verb_of line = (row_of (first_of line)).0
 
 -- "a line of more than 16,397 characters"
 abbrev pub said_of : List ℕ → Said
-said_of line = saidIn 16397 (row_of (first_of line)).1 line
+said_of line = said_in 16397 (row_of (first_of line)).1 line
 
 -- ---- how much a command may ask for, so that it fits the buffers and a byte
 

@@ -1,7 +1,7 @@
 // Writing the line that answers a line, at the start of a buffer.
 ghost use Rattle.std.specs.Prelude.{◌≡◌, [], ◌∷◌, ◌+◌, ◌≤◌, length, take};
-ghost use Rattle.laying.specs.Parts.{word as Parts·word, tail as Parts·tail, lettersOf, Laid, Line};
-ghost use Rattle.lines.specs.Told.{bits, byte, page as Told·page, tag as Told·tag, tagBack, bus as Told·bus, busLow, busWriting, wordText, pageIn, parts_of, bytesIn, tells, AnswerFits};
+ghost use Rattle.laying.specs.Parts.{word as Parts·word, tail as Parts·tail, letters_of, Laid, Line};
+ghost use Rattle.lines.specs.Told.{bits, byte, page as Told·page, tag as Told·tag, tag_back, bus as Told·bus, bus_low, bus_writing, word_text, page_in, parts_of, bytes_in, tells, AnswerFits};
 
 use basics::to_usize;
 use laying::{
@@ -64,7 +64,7 @@ pub enum Answer {
 fn bits_line(out: &mut Out, answer: &Kilobyte, n: usize) -> usize
     requires { n ≤ 8192 }
     ensures upper_bound { result ≤ 2080 }
-    ensures line { Line (parts_of (bits n (take (bytesIn n) answer.now))) result out.new }
+    ensures line { Line (parts_of (bits n (take (bytes_in n) answer.now))) result out.new }
 {
     let a = put(out, 0, b"answer ");
     let b = put_number(out, a, n);
@@ -96,7 +96,7 @@ fn bytes_line(out: &mut Out, word: &[u8], buffer: &Kilobyte, n: usize) -> usize
 }
 
 fn letters_of(word: Word) -> Letters
-    ensures { (result.0 ≤ 7) × (lettersOf result ≡ wordText word) }
+    ensures { (result.0 ≤ 7) × (letters_of result ≡ word_text word) }
 {
     match word {
         Word::Idle => Letters(4, *b"idle   "),
@@ -115,7 +115,7 @@ fn letters_of(word: Word) -> Letters
 fn put_word(out: &mut [u8], at: usize, word: Word) -> usize
     requires { at + 7 ≤ length out.old }
     ensures upper_bound { result ≤ at + 7 }
-    ensures laid { Laid (Parts·word (wordText word)) at result out.old out.new }
+    ensures laid { Laid (Parts·word (word_text word)) at result out.old out.new }
 {
     let letters = letters_of(word);
     put_letters(out, at, letters)
@@ -139,7 +139,7 @@ fn tag_back_line(
     answered: bool,
 ) -> usize
     ensures upper_bound { result ≤ 2080 }
-    ensures line { Line (parts_of (tagBack state back authenticated answered)) result out.new }
+    ensures line { Line (parts_of (tag_back state back authenticated answered)) result out.new }
 {
     let a = put(out, 0, b"tag ");
     let b = put_word(out, a, state);
@@ -163,7 +163,7 @@ fn bus_line(out: &mut Out, phase: Word, counter: u16) -> usize
 
 fn bus_low_line(out: &mut Out, counter: u16, high: u8) -> usize
     ensures upper_bound { result ≤ 2080 }
-    ensures line { Line (parts_of (busLow counter high)) result out.new }
+    ensures line { Line (parts_of (bus_low counter high)) result out.new }
 {
     let one = [high];
     let a = put(out, 0, b"bus low ");
@@ -174,7 +174,7 @@ fn bus_low_line(out: &mut Out, counter: u16, high: u8) -> usize
 
 fn bus_writing_line(out: &mut Out, counter: u16, places: u8) -> usize
     ensures upper_bound { result ≤ 2080 }
-    ensures line { Line (parts_of (busWriting counter places)) result out.new }
+    ensures line { Line (parts_of (bus_writing counter places)) result out.new }
 {
     let a = put(out, 0, b"bus writing ");
     let b = put_four(out, a, counter);
@@ -188,7 +188,7 @@ fn put_page(out: &mut [u8], at: usize, image: &[u8], page: u8, size: usize) -> u
     requires size_in_bounds { size ≤ length image.now }
     requires at_in_bounds { at + 9 ≤ length out.old }
     ensures upper_bound { result ≤ at + 9 }
-    ensures laid { Laid (Parts·tail (pageIn page (take size image.now))) at result out.old out.new }
+    ensures laid { Laid (Parts·tail (page_in page (take size image.now))) at result out.old out.new }
 {
     let start = 4 * to_usize(page);
     if start >= size {
@@ -204,7 +204,7 @@ fn put_page(out: &mut [u8], at: usize, image: &[u8], page: u8, size: usize) -> u
 fn page_line(out: &mut Out, image: &Kilobyte, page: u8, size: usize) -> usize
     requires { size ≤ 1024 }
     ensures upper_bound { result ≤ 2080 }
-    ensures line { Line (parts_of (Told·page (pageIn page (take size image.now)))) result out.new }
+    ensures line { Line (parts_of (Told·page (page_in page (take size image.now)))) result out.new }
 {
     let a = put(out, 0, b"page");
     let b = put_page(out, a, image, page, size);

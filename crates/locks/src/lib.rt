@@ -1,8 +1,8 @@
 // The two kinds of locks as numbers: which bit locks a page, and which bits a WRITE sets.
 ghost use Rattle.std.specs.Prelude.{◌≡◌, ◌+◌, ◌-◌, ◌/◌, ◌%◌, ◌≤◌, ◌<◌};
 ghost use Rattle.locks.specs.Bits.{is_set, of_bits};
-ghost use Rattle.locks.specs.Locks.{Sized, lockBits, pagesEach, lockOf, bit_of, setIn, lockedBy, isBit, clearAt, mayStatic, staticGain, mayDynamic, dynamicGain, mayBlock, blockGain};
-ghost use Rattle.locks.specs.Table.{row_at, firstRow, mayRow};
+ghost use Rattle.locks.specs.Locks.{Sized, lock_bits, pages_each, lock_of, bit_of, set_in, locked_by, is_bit, clear_at, may_static, static_gain, may_dynamic, dynamic_gain, may_block, block_gain};
+ghost use Rattle.locks.specs.Table.{row_at, first_row, may_row};
 
 // A lock bit: of the static locks, of the dynamic locks, or none.
 #[derive(Drop)]
@@ -70,7 +70,7 @@ struct Rows {
 }
 
 fn rows_of(n: usize) -> Rows
-    ensures start_value { (result.start ≡ firstRow n) × (result.count ≡ lockBits n) × (result.start + result.count ≤ 34) × (result.count ≤ 14) }
+    ensures start_value { (result.start ≡ first_row n) × (result.count ≡ lock_bits n) × (result.start + result.count ≤ 34) × (result.count ≤ 14) }
     ensures pairs { (result.start % 2 ≡ 0) × (result.count % 2 ≡ 0) }
 {
     match n {
@@ -92,7 +92,7 @@ fn rows_of(n: usize) -> Rows
 // The one dynamic lock bit that can have a page from 16 up: the bits cover user pages in order, each as many.
 fn candidate(n: usize, page: usize) -> usize
     requires { 16 ≤ page }
-    ensures { result ≡ (page - 16) / pagesEach n }
+    ensures { result ≡ (page - 16) / pages_each n }
 {
     match n {
         45 => (page - 16) / 2,
@@ -103,7 +103,7 @@ fn candidate(n: usize, page: usize) -> usize
 // The lock bit of a page from 16 up. The row of its candidate decides. No other is looked up: each look copies the table to the stack.
 fn dynamic_lock(n: usize, page: usize) -> LockBit
     requires { Sized n × (16 ≤ page) }
-    ensures { result ≡ lockOf n page }
+    ensures { result ≡ lock_of n page }
 {
     let rows = rows_of(n);
     let i = candidate(n, page);
@@ -125,7 +125,7 @@ fn dynamic_lock(n: usize, page: usize) -> LockBit
 // The bit that locks a page, at n pages.
 pub fn lock_of(n: usize, page: usize) -> LockBit
     requires { Sized n }
-    ensures { result ≡ lockOf n page }
+    ensures { result ≡ lock_of n page }
 {
     match page {
         0..=2 => LockBit::Absent,
@@ -145,7 +145,7 @@ pub fn is_set(number: u16, i: usize) -> bool
 // Whether a lock bit is set.
 fn set_in(statics: u16, dynamics: u16, lock: LockBit) -> bool
     requires { bit_of lock < 16 }
-    ensures { result ≡ setIn statics dynamics lock }
+    ensures { result ≡ set_in statics dynamics lock }
 {
     match lock {
         LockBit::Static(i) => is_set(statics, i),
@@ -157,7 +157,7 @@ fn set_in(statics: u16, dynamics: u16, lock: LockBit) -> bool
 // The bit that is set and locks a page, or none: then the page is open.
 pub fn locked_by(n: usize, statics: u16, dynamics: u16, page: usize) -> LockBit
     requires { Sized n }
-    ensures { result ≡ lockedBy n statics dynamics page }
+    ensures { result ≡ locked_by n statics dynamics page }
 {
     let lock = lock_of(n, page);
     if set_in(statics, dynamics, lock) {
@@ -169,7 +169,7 @@ pub fn locked_by(n: usize, statics: u16, dynamics: u16, page: usize) -> LockBit
 
 // Whether there is one.
 pub fn is_bit(lock: LockBit) -> bool
-    ensures { result ≡ isBit lock }
+    ensures { result ≡ is_bit lock }
 {
     match lock {
         LockBit::Static(_) => true,
@@ -181,14 +181,14 @@ pub fn is_bit(lock: LockBit) -> bool
 // 1 where bit k is clear, else 0.
 fn clear(b: u16, k: usize) -> u16
     requires { k < 16 }
-    ensures { (result ≡ clearAt b k) × (result ≤ 1) }
+    ensures { (result ≡ clear_at b k) × (result ≤ 1) }
 {
     1 - (b >> k) % 2
 }
 
 // The static locks that a WRITE may set.
 fn static_mask(statics: u16) -> u16
-    ensures { result ≡ of_bits 16 (mayStatic statics) }
+    ensures { result ≡ of_bits 16 (may_static statics) }
 {
     0x0007 + 0x0008 * clear(statics, 0) + 0x03F0 * clear(statics, 1) + 0xFC00 * clear(statics, 2)
 }
@@ -197,7 +197,7 @@ fn static_mask(statics: u16) -> u16
 // "bit k blocks lock bits 2k and 2k+1".
 fn row_mask(start: usize, count: usize, blocks: u16) -> u16
     requires { (start + count ≤ 34) × (count ≤ 14) × (start % 2 ≡ 0) × (count % 2 ≡ 0) }
-    ensures { result ≡ of_bits count (mayRow start blocks) }
+    ensures { result ≡ of_bits count (may_row start blocks) }
 {
     // Copied once, where row_at would copy it at each turn.
     let table = TABLE;
@@ -214,7 +214,7 @@ fn row_mask(start: usize, count: usize, blocks: u16) -> u16
 // The dynamic locks that a WRITE may set.
 fn dynamic_mask(n: usize, blocks: u16) -> u16
     requires { Sized n }
-    ensures { result ≡ of_bits 16 (mayDynamic n blocks) }
+    ensures { result ≡ of_bits 16 (may_dynamic n blocks) }
 {
     let rows = rows_of(n);
     row_mask(rows.start, rows.count, blocks)
@@ -222,7 +222,7 @@ fn dynamic_mask(n: usize, blocks: u16) -> u16
 
 // The block bits of the lock page that are defined.
 fn block_mask(n: usize) -> u8
-    ensures { result ≡ of_bits 8 (mayBlock n) }
+    ensures { result ≡ of_bits 8 (may_block n) }
 {
     match n {
         45 => 0x3F,
@@ -233,7 +233,7 @@ fn block_mask(n: usize) -> u8
 
 // The static locks after a WRITE of page 2.
 pub fn static_gain(statics: u16, d: u16) -> u16
-    ensures { result ≡ staticGain statics d }
+    ensures { result ≡ static_gain statics d }
 {
     statics | d & static_mask(statics)
 }
@@ -241,14 +241,14 @@ pub fn static_gain(statics: u16, d: u16) -> u16
 // The dynamic locks after a WRITE of the lock page, whose block bits were these before it.
 pub fn dynamic_gain(n: usize, blocks: u8, dynamics: u16, d: u16) -> u16
     requires { Sized n }
-    ensures { result ≡ dynamicGain n blocks dynamics d }
+    ensures { result ≡ dynamic_gain n blocks dynamics d }
 {
     dynamics | d & dynamic_mask(n, blocks as u16)
 }
 
 // The block bits after a WRITE of the lock page.
 pub fn block_gain(n: usize, blocks: u8, d: u8) -> u8
-    ensures { result ≡ blockGain n blocks d }
+    ensures { result ≡ block_gain n blocks d }
 {
     blocks | d & block_mask(n)
 }

@@ -2,27 +2,27 @@
 -- Q-6's own definition. Assumes nothing.
 use Rattle.std.specs.Prelude.{◌≡◌, List, ◌++◌, ℕ, ◌+◌, ◌*◌, ◌<◌, ◌≤◌, length, take, drop, get_or}
 use Rattle.image.specs.Layout.{Fits}
-use Rattle.screen.specs.Reading.{verdictAt}
+use Rattle.screen.specs.Reading.{verdict_at}
 use Rattle.screen.specs.Screen.{reads, seen}
 use Rattle.screen.specs.declared.reading.Verdict.TheVariants.{Live, Old, Ahead}
 use Rattle.logger.specs.Writer.{block_of, Written, written, Wrote}
 
 -- "Written at page 04h": k bytes from there on are lent to the writer, and stand there again with what it left
-abbrev pub writtenAt04 : ℕ → ℕ → ℕ → List ℕ → List ℕ
-writtenAt04 k second watts img =
+abbrev pub written_at04 : ℕ → ℕ → ℕ → List ℕ → List ℕ
+written_at04 k second watts img =
     take (4 * 0x04) img ++ ((written second watts (take k (drop (4 * 0x04) img))).area ++ drop k (drop (4 * 0x04) img))
 
 -- "it is read back by the screen with the same time and watts": at any present second, live, old or ahead by the age alone
 pub record ReadBack (img : List ℕ) (second watts : ℕ) : Type 0 where
-  pub any : (present : ℕ) → seen img present ≡ reads (verdictAt present second) watts second
+  pub any : (present : ℕ) → seen img present ≡ reads (verdict_at present second) watts second
   pub live : (age : ℕ) → age ≤ 900 → seen img (second + age) ≡ reads Live watts second
   pub old : (age : ℕ) → 901 ≤ age → seen img (second + age) ≡ reads Old watts second
   pub ahead : (present : ℕ) → present < second → seen img present ≡ reads Ahead watts second
 
 pub record Promises : Type 0 where
   -- "Written at page 04h of any right-length image, it is read back": whatever area from there on was lent, if it has 14 bytes
-  pub readBack : (n k second watts : ℕ) (img : List ℕ) → Fits n img → 14 ≤ k → 4 * 0x04 + k ≤ length img
-      → ReadBack (writtenAt04 k second watts img) second watts
+  pub read_back : (n k second watts : ℕ) (img : List ℕ) → Fits n img → 14 ≤ k → 4 * 0x04 + k ≤ length img
+      → ReadBack (written_at04 k second watts img) second watts
   -- and so are its fourteen bytes at page 04h, however they came there
   pub standing : (n second watts : ℕ) (img : List ℕ) → Fits n img → take 14 (drop (4 * 0x04) img) ≡ block_of second watts → ReadBack img second watts
   -- "two readings give equal bytes only if they are equal", whatever areas they were written into

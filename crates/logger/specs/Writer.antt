@@ -6,12 +6,12 @@ use Rattle.image.specs.Layout.{bytes_of}
 -- ---- "the reading of Q-6"
 
 -- "each four bytes low first": of a number of 32 bits, of which no more than a byte is left above the third
-unfoldable pub fourOf : ℕ → Four
-fourOf n = record { b0 = n % 256; b1 = n / 256 % 256; b2 = n / 65536 % 256; b3 = n / 16777216 }
+unfoldable pub four_of : ℕ → Four
+four_of n = record { b0 = n % 256; b1 = n / 256 % 256; b2 = n / 65536 % 256; b3 = n / 16777216 }
 
 -- "the eleven bytes": "exactly D5 00 08 and eight bytes: seconds, then watts"
 unfoldable pub reading_of : ℕ → ℕ → List ℕ
-reading_of second watts = 0xD5 ∷ 0x00 ∷ 0x08 ∷ (bytes_of (fourOf second) ++ bytes_of (fourOf watts))
+reading_of second watts = 0xD5 ∷ 0x00 ∷ 0x08 ∷ (bytes_of (four_of second) ++ bytes_of (four_of watts))
 
 -- ---- the writer
 

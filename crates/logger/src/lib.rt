@@ -1,6 +1,6 @@
 // The writer for the logger: a reading of the corridor screen, into a user area that is lent.
 ghost use Rattle.std.specs.Prelude.{◌≡◌};
-ghost use Rattle.logger.specs.Writer.{fourOf, block_of, written, Wrote};
+ghost use Rattle.logger.specs.Writer.{four_of, block_of, written, Wrote};
 
 use bytes::copy;
 use image::layout::Four;
@@ -10,7 +10,7 @@ const SHORT_AREA: u8 = 23;
 
 // The four bytes of a number, the low one first.
 fn four_of(n: u32) -> Four
-    ensures { result ≡ fourOf n }
+    ensures { result ≡ four_of n }
 {
     Four {
         b0: (n % 256) as u8,

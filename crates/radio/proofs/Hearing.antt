@@ -8,15 +8,15 @@ use lib.Dec.{eqb}
 use lib.ListN.{length, get_or}
 use borrow.Author.Tests.{eqb-true, ne_eqb}
 use Rattle.basics.specs.Bytes.{low_first}
-use Rattle.basics.proofs.Choice.{never, split, by, same-either}
-use Rattle.crc_a.specs.CrcA.{polynomial, start, shifted, shifted_by, byteIn, bytesIn, crcA, crcRight}
+use Rattle.basics.proofs.Choice.{never, split, by, same_either}
+use Rattle.crc_a.specs.CrcA.{polynomial, start, shifted, shifted_by, byte_in, bytes_in, crc_a, crc_right}
 use Rattle.tag.specs.declared.state.State.{State}
 use Rattle.tag.specs.declared.state.State.TheVariants.{Idle, Halt, Ready1, Ready2, Active}
 use Rattle.tag.specs.declared.state.Tag.{Tag}
 use Rattle.tag.specs.declared.outcome.Step.{Step}
 use Rattle.tag.specs.State.{moved, activated}
 use Rattle.tag.specs.Outcome.{Did}
-use Rattle.radio.specs.Heard.{heardIn, isReadZero, hearing, heard}
+use Rattle.radio.specs.Heard.{heard_in, is_read_zero, hearing, heard}
 
 -- ---- a whole READ of page 00h
 
@@ -29,73 +29,73 @@ four_bytes (a ∷ b ∷ c ∷ []) e = absurd (omega (arith, e))
 four_bytes (a ∷ b ∷ c ∷ d ∷ []) e = refl
 four_bytes (a ∷ b ∷ c ∷ d ∷ x ∷ xs) e = absurd (omega (arith, e))
 
-crc-of-zero : (c d : ℕ) → crcRight (0x30 ∷ 0x00 ∷ c ∷ d ∷ []) ≡ eqb 0xA802 (low_first c d)
-unfolding crcRight crcA polynomial start shifted shifted_by byteIn bytesIn
-crc-of-zero c d = refl
+crc_of_zero : (c d : ℕ) → crc_right (0x30 ∷ 0x00 ∷ c ∷ d ∷ []) ≡ eqb 0xA802 (low_first c d)
+unfolding crc_right crc_a polynomial start shifted shifted_by byte_in bytes_in
+crc_of_zero c d = refl
 
-crc-zero : (f : List ℕ) → length f ≡ 4 → get_or f 0 0 ≡ 0x30 → get_or f 1 0 ≡ 0x00 → crcRight f ≡ eqb 0xA802 (low_first (get_or f 2 0) (get_or f 3 0))
-crc-zero f l a b = ap crcRight (four_bytes f l) ∙ rw (a, b) (crc-of-zero (get_or f 2 0) (get_or f 3 0))
+crc_zero : (f : List ℕ) → length f ≡ 4 → get_or f 0 0 ≡ 0x30 → get_or f 1 0 ≡ 0x00 → crc_right f ≡ eqb 0xA802 (low_first (get_or f 2 0) (get_or f 3 0))
+crc_zero f l a b = ap crc_right (four_bytes f l) ∙ rw (a, b) (crc_of_zero (get_or f 2 0) (get_or f 3 0))
 
 module _ (f : List ℕ) (bits : ℕ) (parity : Bool) where
-  pub read-bits : (bits ≡ 32 → ⊥) → false ≡ isReadZero f bits parity
-  unfolding isReadZero
-  read-bits ne = rw (ne_eqb bits 32 ne)
+  pub read_bits : (bits ≡ 32 → ⊥) → false ≡ is_read_zero f bits parity
+  unfolding is_read_zero
+  read_bits ne = rw (ne_eqb bits 32 ne)
 
-  pub read-code : (k : ℕ) → k ≡ low_first (get_or f 0 0) (get_or f 1 0) → (k ≡ 0x0030 → ⊥) → false ≡ isReadZero f bits parity
-  unfolding isReadZero
-  read-code k q ne =
+  pub read_code_lem : (k : ℕ) → k ≡ low_first (get_or f 0 0) (get_or f 1 0) → (k ≡ 0x0030 → ⊥) → false ≡ is_read_zero f bits parity
+  unfolding is_read_zero
+  read_code_lem k q ne =
       split (eqb (get_or f 0 0) 0x30)
       (λ y. let a = eqb-true (get_or f 0 0) 0x30 y in
       rw (a, ne_eqb (get_or f 1 0) 0x00 (λ z. ne (omega arith))) (sym (and-false (eqb bits 32))))
       (λ y. rw y (sym (and-false (eqb bits 32))))
 
   module _ (j k : ℕ) (e : bits ≡ 32) (whole : length f ≡ (bits + 7) / 8) (p : j ≡ low_first (get_or f 0 0) (get_or f 1 0)) (m : j ≡ 0x0030) (q : k ≡ low_first (get_or f 2 0) (get_or f 3 0)) where
-    zero-code : get_or f 0 0 ≡ 0x30
-    zero-code = omega arith
+    zero_code : get_or f 0 0 ≡ 0x30
+    zero_code = omega arith
 
-    zero-page : get_or f 1 0 ≡ 0x00
-    zero-page = omega arith
+    zero_page : get_or f 1 0 ≡ 0x00
+    zero_page = omega arith
 
-    crc-as : crcRight f ≡ eqb 0xA802 k
-    crc-as = crc-zero f (omega arith) zero-code zero-page ∙ rw q
+    crc_as : crc_right f ≡ eqb 0xA802 k
+    crc_as = crc_zero f (omega arith) zero_code zero_page ∙ rw q
 
-    pub read-crc : (k ≡ 0xA802 → ⊥) → false ≡ isReadZero f bits parity
-    unfolding isReadZero
-    read-crc ne = rw (zero-code, zero-page, crc-as, ne_eqb 0xA802 k (λ z. ne (sym z)), and-false parity) (sym (and-false (eqb bits 32)))
+    pub read_crc : (k ≡ 0xA802 → ⊥) → false ≡ is_read_zero f bits parity
+    unfolding is_read_zero
+    read_crc ne = rw (zero_code, zero_page, crc_as, ne_eqb 0xA802 k (λ z. ne (sym z)), and-false parity) (sym (and-false (eqb bits 32)))
 
-    pub read-parity : k ≡ 0xA802 → parity ≡ isReadZero f bits parity
-    unfolding isReadZero
-    read-parity y = rw (e, zero-code, zero-page, crc-as, y) (sym (and-true parity))
+    pub read_parity : k ≡ 0xA802 → parity ≡ is_read_zero f bits parity
+    unfolding is_read_zero
+    read_parity y = rw (e, zero_code, zero_page, crc_as, y) (sym (and-true parity))
 
 -- ---- the state in which a frame is heard
 
-abbrev pub isActive : State → Bool
-isActive Idle = false
-isActive Halt = false
-isActive (Ready1 w) = false
-isActive (Ready2 w) = false
-isActive (Active w a) = true
+abbrev pub is_active : State → Bool
+is_active Idle = false
+is_active Halt = false
+is_active (Ready1 w) = false
+is_active (Ready2 w) = false
+is_active (Active w a) = true
 
 module _ (f : List ℕ) (bits : ℕ) (parity : Bool) (s : State) where
-  pub hearing-read : (v : State) (b : Bool) → b ≡ isReadZero f bits parity → b ≡ true → v ≡ activated s → v ≡ hearing s f bits parity
+  pub hearing_read : (v : State) (b : Bool) → b ≡ is_read_zero f bits parity → b ≡ true → v ≡ activated s → v ≡ hearing s f bits parity
   unfolding hearing
-  hearing-read v b h y m = rw (← h, y) m
+  hearing_read v b h y m = rw (← h, y) m
 
-  pub hearing-other : (b : Bool) → b ≡ isReadZero f bits parity → b ≡ false → s ≡ hearing s f bits parity
+  pub hearing_other : (b : Bool) → b ≡ is_read_zero f bits parity → b ≡ false → s ≡ hearing s f bits parity
   unfolding hearing
-  hearing-other b h y = rw (← h, y)
+  hearing_other b h y = rw (← h, y)
 
   -- a state from which it doesn't lead to another
-  pub hearing-kept : (s' : State) → s ≡ s' → activated s' ≡ s' → s ≡ hearing s f bits parity
+  pub hearing_kept : (s' : State) → s ≡ s' → activated s' ≡ s' → s ≡ hearing s f bits parity
   unfolding hearing
-  hearing-kept s' g k = rw (g, k) (same-either (isReadZero f bits parity) _)
+  hearing_kept s' g k = rw (g, k) (same_either (is_read_zero f bits parity) _)
 
   -- where it leads to no other state than ACTIVE
-  found : isActive (hearing s f bits parity) ≡ false → hearing s f bits parity ≡ s
+  found : is_active (hearing s f bits parity) ≡ false → hearing s f bits parity ≡ s
   unfolding hearing
-  found = by (λ (x : State). isActive x ≡ false → x ≡ s) (isReadZero f bits parity) (λ _. only s) (λ _ _. refl)
+  found = by (λ (x : State). is_active x ≡ false → x ≡ s) (is_read_zero f bits parity) (λ _. only s) (λ _ _. refl)
     where
-      only : (s : State) → isActive (activated s) ≡ false → activated s ≡ s
+      only : (s : State) → is_active (activated s) ≡ false → activated s ≡ s
       only Idle e = refl
       only Halt e = refl
       only (Ready1 w) e = never e
@@ -108,14 +108,14 @@ module _ (n : ℕ) (img : List ℕ) (t : Tag) (f : List ℕ) (bits : ℕ) (parit
   here : hearing t.state f bits parity ≡ s
   here = ap (λ (x : State). hearing x f bits parity) (sym e) ∙ sym h
 
-  pub heard-by : (u : Tag) (image' : List ℕ) → u ≡ moved t s → Did (heardIn s' n img u f bits parity) r img image' before after → Did (heard n img t f bits parity) r img image' before after
+  pub heard_by : (u : Tag) (image' : List ℕ) → u ≡ moved t s → Did (heard_in s' n img u f bits parity) r img image' before after → Did (heard n img t f bits parity) r img image' before after
   unfolding heard
-  heard-by u image' q d =
-      let d₁ : Did (heardIn s' n img (moved t s) f bits parity) r img image' before after = rw q at d in
-      subst⁻¹ (λ (x : State). Did (heardIn x n img (moved t x) f bits parity) r img image' before after) here
-      (subst⁻¹ (λ (x : State). Did (heardIn x n img (moved t s) f bits parity) r img image' before after) g d₁)
+  heard_by u image' q d =
+      let d₁ : Did (heard_in s' n img (moved t s) f bits parity) r img image' before after = rw q at d in
+      subst⁻¹ (λ (x : State). Did (heard_in x n img (moved t x) f bits parity) r img image' before after) here
+      (subst⁻¹ (λ (x : State). Did (heard_in x n img (moved t s) f bits parity) r img image' before after) g d₁)
 
   -- where the image isn't lent for a change
-  pub heard-any : isActive s' ≡ false → ((i : List ℕ) → Did (heardIn s' n img t f bits parity) r i i before after) → Did (heard n img t f bits parity) r img img before after
+  pub heard_any : is_active s' ≡ false → ((i : List ℕ) → Did (heard_in s' n img t f bits parity) r i i before after) → Did (heard n img t f bits parity) r img img before after
   unfolding moved
-  heard-any k d = heard-by t img (ap (moved t) (sym (found f bits parity t.state (ap isActive (here ∙ g) ∙ k)) ∙ here)) (d img)
+  heard_any k d = heard_by t img (ap (moved t) (sym (found f bits parity t.state (ap is_active (here ∙ g) ∙ k)) ∙ here)) (d img)

@@ -3,8 +3,8 @@ use mathlib.Core.Path.{◌≡◌, sym, ◌∙◌}
 use Rattle.radio.specs.Call.{OneOutcome}
 
 -- two outcomes that the contract allows for one input are equal
-pub one-outcome : OneOutcome
-one-outcome o r r' img image image' before after after' m m' = (
+pub one_outcome : OneOutcome
+one_outcome o r r' img image image' before after after' m m' = (
   same (m.refused ∙ sym m'.refused) (m.bits ∙ sym m'.bits) (m.left ∙ sym m'.left),
   m.image ∙ sym m'.image,
   m.answer ∙ sym m'.answer,

@@ -3,8 +3,8 @@ use Rattle.std.specs.Prelude.{◌≡◌, List, Bool, cond, ◌&&◌, ◌||◌, �
 use Rattle.image.specs.declared.layout.Size.{Size}
 use Rattle.image.specs.declared.layout.Size.TheVariants.{Pages, Unknown}
 use Rattle.image.specs.Layout.{size_of}
-use Rattle.tag.specs.Outcome.{arg, Reply, silence, bits_of, answer_of, over, Effect, keep, apply, Does, answerRoom}
-use Rattle.tag.specs.Record.{tag_of, recordOf}
+use Rattle.tag.specs.Outcome.{arg, Reply, silence, bits_of, answer_of, over, Effect, keep, apply, Does, answer_room}
+use Rattle.tag.specs.Record.{tag_of, record_of}
 use Rattle.tag.specs.declared.record.TagRecord.{TagRecord}
 use Rattle.radio.specs.Heard.{heard}
 use Rattle.radio.specs.declared.call.Answer.{Answer}
@@ -14,8 +14,8 @@ unfoldable pub padded : List ℕ → ℕ → Bool
 padded f bits = eqb (bits % 8) 0 || ltb (arg f (bits / 8)) (2 ^ (bits % 8))
 
 -- "bit count 0 or over 512, byte count not the bits rounded up, or a set bit above the last"
-unfoldable pub isFrame : List ℕ → ℕ → Bool
-isFrame f bits = leb 1 bits && (leb bits 512 && (eqb (length f) ((bits + 7) / 8) && padded f bits))
+unfoldable pub is_frame : List ℕ → ℕ → Bool
+is_frame f bits = leb 1 bits && (leb bits 512 && (eqb (length f) ((bits + 7) / 8) && padded f bits))
 
 -- what comes out of the call: the number of its refusal or 0, a reply, an effect on the image, and the record to keep
 pub record Called : Type 0 where
@@ -29,17 +29,17 @@ unfoldable pub refusal : ℕ → TagRecord → Called
 refusal k r = record { refused = k; reply = silence; effect = keep; left = r }
 
 unfoldable pub taken : Does → Called
-taken d = record { refused = 0; reply = d.reply; effect = d.effect; left = recordOf d.tag }
+taken d = record { refused = 0; reply = d.reply; effect = d.effect; left = record_of d.tag }
 
 -- "2: answer buffer under 1,024 bytes"; "3: .."
-unfoldable pub calledAt : Size → List ℕ → ℕ → TagRecord → List ℕ → ℕ → Bool → Called
-calledAt Unknown img room r f bits parity = refusal 1 r
-calledAt (Pages n) img room r f bits parity =
-    cond (leb answerRoom room) (cond (isFrame f bits) (taken (heard n img (tag_of r) f bits parity)) (refusal 3 r)) (refusal 2 r)
+unfoldable pub called_at : Size → List ℕ → ℕ → TagRecord → List ℕ → ℕ → Bool → Called
+called_at Unknown img room r f bits parity = refusal 1 r
+called_at (Pages n) img room r f bits parity =
+    cond (leb answer_room room) (cond (is_frame f bits) (taken (heard n img (tag_of r) f bits parity)) (refusal 3 r)) (refusal 2 r)
 
 -- "1: image length isn't 184, 544 or 928"; "Tested in this order."
 unfoldable pub called : List ℕ → ℕ → TagRecord → List ℕ → ℕ → Bool → Called
-called img room r f bits parity = calledAt (size_of (length img)) img room r f bits parity
+called img room r f bits parity = called_at (size_of (length img)) img room r f bits parity
 
 -- The call did this: img is the image before it and image' after it, before and after are the answer buffer's bytes; and the answer's
 -- bits fit the buffer.

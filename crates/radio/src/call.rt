@@ -2,9 +2,9 @@
 ghost use Rattle.std.specs.Prelude.{◌≡◌, List, ℕ, ◌≤◌, length};
 ghost use Rattle.image.specs.Layout.{Fits};
 ghost use Rattle.image.specs.declared.layout.Size.TheVariants.{Pages};
-ghost use Rattle.tag.specs.State.{fieldOff};
-ghost use Rattle.tag.specs.Record.{recordOf, fieldLoss};
-ghost use Rattle.radio.specs.Call.{padded, isFrame, refusal, calledAt, called, Met};
+ghost use Rattle.tag.specs.State.{field_off};
+ghost use Rattle.tag.specs.Record.{record_of, field_loss};
+ghost use Rattle.radio.specs.Call.{padded, is_frame, refusal, called_at, called, Met};
 
 use crate::hear::hear;
 use image::layout::Size;
@@ -23,14 +23,14 @@ pub struct Answer {
 
 // The record of "field off".
 pub fn field_off() -> TagRecord
-    ensures { result ≡ recordOf fieldOff }
+    ensures { result ≡ record_of field_off }
 {
     record_of(Tag::field_off())
 }
 
 // The field is lost.
 pub fn field_loss(rec: TagRecord) -> TagRecord
-    ensures { result ≡ fieldLoss rec }
+    ensures { result ≡ field_loss rec }
 {
     let tag = tag_of(rec);
     record_of(tag.field_lost())
@@ -54,7 +54,7 @@ fn is_padded(frame: &[u8], bits: usize) -> bool
 }
 
 fn is_frame(frame: &[u8], bits: usize) -> bool
-    ensures { result ≡ isFrame frame.now bits }
+    ensures { result ≡ is_frame frame.now bits }
 {
     if bits < 1 {
         return false;
@@ -91,7 +91,7 @@ fn frame_at(
     parity: bool,
 ) -> Answer
     requires { Fits n image.old }
-    ensures { Met (calledAt (Pages n) image.old (length answer.old) rec frame.now bits parity) result image.old image.new answer.old answer.new }
+    ensures { Met (called_at (Pages n) image.old (length answer.old) rec frame.now bits parity) result image.old image.new answer.old answer.new }
 {
     if answer.len() < ANSWER_ROOM {
         return refuse(2, rec);

@@ -1,7 +1,7 @@
 // What a frame does, by the tag's state.
 ghost use Rattle.std.specs.Prelude.{◌≡◌, ◌+◌, ◌/◌, length};
 ghost use Rattle.tag.specs.Outcome.{Did, Room};
-ghost use Rattle.radio.specs.Heard.{isReadZero, hearing, heard};
+ghost use Rattle.radio.specs.Heard.{is_read_zero, hearing, heard};
 
 use basics::low_first;
 use tag::outcome::Step;
@@ -10,7 +10,7 @@ use tag::state::{State, Tag};
 // Whether a frame is a whole READ of page 00h with good parity: 30h 00h, and their CRC_A, 02h A8h.
 fn is_read_zero(frame: &[u8], bits: usize, parity: bool) -> bool
     requires { length frame.now ≡ (bits + 7) / 8 }
-    ensures { result ≡ isReadZero frame.now bits parity }
+    ensures { result ≡ is_read_zero frame.now bits parity }
 {
     if bits != 32 {
         return false;

@@ -10,47 +10,47 @@ use lib.Dec.{leb, ltb}
 use lib.ListN.{length, get_or}
 use borrow.Author.Tests.{lt-ltb, le-leb, leb-true, ltb-true}
 use Rattle.basics.proofs.Choice.{by, and_left, and_right}
-use Rattle.locks.specs.Locks.{lockPage}
+use Rattle.locks.specs.Locks.{lock_page}
 use Rattle.image.specs.declared.layout.Four.{Four}
 use Rattle.image.specs.declared.layout.Region.TheVariants.{User}
 use Rattle.image.specs.declared.mirror.Mirror.{Mirror}
-use Rattle.image.specs.Layout.{Fits, byte, pageAt, bytes_of, store, firstSettings, secondSettings, regionOf}
-use Rattle.image.specs.Settings.{auth0, access, prot, counterOn, countReadable}
+use Rattle.image.specs.Layout.{Fits, byte, page_at, bytes_of, store, first_settings, second_settings, region_of}
+use Rattle.image.specs.Settings.{auth0, access, prot, counter_on, count_readable}
 use Rattle.image.specs.Shown.{shown}
 use Rattle.image.specs.Tail.{counted}
 use Rattle.image.specs.Mirror as mirror
-use Rattle.image.specs.Mirror.{wanted, text, allowed, mirrorFor, replaced, through}
-use Rattle.image.proofs.Laws.{in-user}
-use Rattle.image.proofs.Stored.{page-same, page-other, byte-other, byte-same}
+use Rattle.image.specs.Mirror.{wanted, text, allowed, mirror_for, replaced, through}
+use Rattle.image.proofs.Laws.{in_user}
+use Rattle.image.proofs.Stored.{page_same, page_other, byte_other, byte_same}
 use Rattle.tag.specs.declared.state.Tag.{Tag}
 use Rattle.tag.specs.State.{authenticated, answering}
-use Rattle.tag.specs.Outcome.{build, Effect, keep, put, bits_of, Does, nak, nakAfter, says}
-use Rattle.reads.specs.Read.{bound, seen, pageByte, pagesBy, pagesFrom, counting, readAnswered, read, fastRead}
+use Rattle.tag.specs.Outcome.{build, Effect, keep, put, bits_of, Does, nak, nak_after, says}
+use Rattle.reads.specs.Read.{bound, seen, page_byte, pages_by, pages_from, counting, read_answered, read, fast_read}
 use Rattle.reads.specs.Mirrored.{none, without, Alike, Mirrored, Untouched}
-use Rattle.reads.proofs.Laws.{length-pages, unmirrored-pages}
+use Rattle.reads.proofs.Laws.{length_pages, unmirrored_pages}
 
-get-build : (f : ℕ → ℕ) (k j : ℕ) → j < k → get_or (build f k) j 0 ≡ f j
-get-build f zero j l = absurd (not-suc-le-zero l)
-get-build f (suc k) zero l = refl
-get-build f (suc k) (suc j) l = get-build (λ i. f (suc i)) k j (le_of_suc-le-suc l)
+get_build : (f : ℕ → ℕ) (k j : ℕ) → j < k → get_or (build f k) j 0 ≡ f j
+get_build f zero j l = absurd (not-suc-le-zero l)
+get_build f (suc k) zero l = refl
+get_build f (suc k) (suc j) l = get_build (λ i. f (suc i)) k j (le_of_suc-le-suc l)
 
 -- ---- where a mirror lies
 
 module _ (n : ℕ) (img : List ℕ) (a : Bool) where
   lies : (P : Mirror → Type 0) → P mirror.none
-      → ((w : Mirror) → 16 ≤ w.start → w.start + w.length ≤ 4 * lockPage n → P w) → P (mirrorFor n img a)
-  unfolding mirrorFor allowed
+      → ((w : Mirror) → 16 ≤ w.start → w.start + w.length ≤ 4 * lock_page n → P w) → P (mirror_for n img a)
+  unfolding mirror_for allowed
   lies P absent present =
-      let w = wanted (pageAt img (firstSettings n)) in
+      let w = wanted (page_at img (first_settings n)) in
       let above = leb 16 w.start in
-      let below = leb (w.start + w.length) (4 * lockPage n) in
-      let may = leb (w.from + w.length) 15 || countReadable n img a in
+      let below = leb (w.start + w.length) (4 * lock_page n) in
+      let may = leb (w.from + w.length) 15 || count_readable n img a in
       by P (above && (below && may)) (λ h. present w (leb-true _ _ (and_left above (below && may) h)) (leb-true _ _ (and_left below may (and_right above (below && may) h)))) (λ _. absent)
 
-  in-user-pages : (i : ℕ) → i < (mirrorFor n img a).length → regionOf n (((mirrorFor n img a).start + i) / 4) ≡ User
-  in-user-pages i =
-      lies (λ m. i < m.length → regionOf n ((m.start + i) / 4) ≡ User) (λ h. absurd (not-suc-le-zero h))
-      (λ w l r h. let p = (w.start + i) / 4 in sym (in-user n p (n - p) (omega arith) (omega arith) (omega arith) (omega arith) (omega arith) (λ e. omega arith)))
+  in_user_pages_lem : (i : ℕ) → i < (mirror_for n img a).length → region_of n (((mirror_for n img a).start + i) / 4) ≡ User
+  in_user_pages_lem i =
+      lies (λ m. i < m.length → region_of n ((m.start + i) / 4) ≡ User) (λ h. absurd (not-suc-le-zero h))
+      (λ w l r h. let p = (w.start + i) / 4 in sym (in_user n p (n - p) (omega arith) (omega arith) (omega arith) (omega arith) (omega arith) (λ e. omega arith)))
 
 -- ---- through it
 
@@ -66,60 +66,60 @@ module _ (n : ℕ) (img : List ℕ) (m : Mirror) (p k : ℕ) where
   outside h =
       let j = 4 * p + k in
       let from_start = leb m.start j in
-      let before-end = ltb j (m.start + m.length) in
-      by (λ (x : ℕ). x ≡ shown n img p k) (from_start && before-end)
+      let before_end = ltb j (m.start + m.length) in
+      by (λ (x : ℕ). x ≡ shown n img p k) (from_start && before_end)
       (λ both.
-      let l : m.start ≤ j = leb-true _ _ (and_left from_start before-end both) in
-      let r : j < m.start + m.length = ltb-true _ _ (and_right from_start before-end both) in
+      let l : m.start ≤ j = leb-true _ _ (and_left from_start before_end both) in
+      let r : j < m.start + m.length = ltb-true _ _ (and_right from_start before_end both) in
       absurd (h (j - m.start) (omega arith) (omega arith)))
       (λ _. refl)
 
 module _ (n : ℕ) (img : List ℕ) (t : Tag) where
-  at : (a b count j : ℕ) → j < 4 * count → get_or (pagesFrom n img t a b count) j 0 ≡ through n img (mirrorFor n img (authenticated t)) ((a + j / 4) % b) (j % 4)
-  unfolding pagesBy pageByte seen
-  at a b count j l = get-build _ (4 * count) j l
+  at : (a b count j : ℕ) → j < 4 * count → get_or (pages_from n img t a b count) j 0 ≡ through n img (mirror_for n img (authenticated t)) ((a + j / 4) % b) (j % 4)
+  unfolding pages_by page_byte seen
+  at a b count j l = get_build _ (4 * count) j l
 
   pub mirrored : Mirrored n img t
   mirrored = record {
-    inUserPages = in-user-pages n img (authenticated t);
+    in_user_pages = in_user_pages_lem n img (authenticated t);
     character = λ a b count i j l h e. at a b count j l ∙ inside n img _ ((a + j / 4) % b) (j % 4) i h e;
     other = λ a b count j l h. at a b count j l ∙ outside n img _ ((a + j / 4) % b) (j % 4) h;
-    asBefore = λ z a b count. sym (unmirrored-pages n a b count img t z);
+    as_before = λ z a b count. sym (unmirrored_pages n a b count img t z);
   }
 
 -- ---- the rest of a READ
 
 module _ (n : ℕ) (img : List ℕ) (t : Tag) (fit : Fits n img) where
-  first-settings : pageAt (without n img) (firstSettings n) ≡ none (pageAt img (firstSettings n))
+  first_settings_lem : page_at (without n img) (first_settings n) ≡ none (page_at img (first_settings n))
   unfolding without
-  first-settings = page-same img (firstSettings n) _ (rw fit.whole (omega (arith, fit.least)))
+  first_settings_lem = page_same img (first_settings n) _ (rw fit.whole (omega (arith, fit.least)))
 
-  others : (p : ℕ) → p ≢ firstSettings n → pageAt (without n img) p ≡ pageAt img p
+  others : (p : ℕ) → p ≢ first_settings n → page_at (without n img) p ≡ page_at img p
   unfolding without
-  others p d = page-other img (firstSettings n) p _ d
+  others p d = page_other img (first_settings n) p _ d
 
-  same-auth0 : auth0 n (without n img) ≡ auth0 n img
-  unfolding none pageAt
-  same-auth0 = ap (λ (v : Four). v.b3) first-settings
+  same_auth0 : auth0 n (without n img) ≡ auth0 n img
+  unfolding none page_at
+  same_auth0 = ap (λ (v : Four). v.b3) first_settings_lem
 
-  same-access : access n (without n img) ≡ access n img
-  unfolding pageAt
-  same-access = ap (λ (v : Four). v.b0) (others (secondSettings n) (λ e. omega (arith, fit.least)))
+  same_access : access n (without n img) ≡ access n img
+  unfolding page_at
+  same_access = ap (λ (v : Four). v.b0) (others (second_settings n) (λ e. omega (arith, fit.least)))
 
-  same-bound : bound n img t ≡ bound n (without n img) t
+  same_bound : bound n img t ≡ bound n (without n img) t
   unfolding bound
-  same-bound = rw (same-auth0, same-access)
+  same_bound = rw (same_auth0, same_access)
 
-  same-counting : counting n img t ≡ counting n (without n img) t
+  same_counting : counting n img t ≡ counting n (without n img) t
   unfolding counting
-  same-counting = rw (same-access, others n (λ e. omega (arith, fit.least)))
+  same_counting = rw (same_access, others n (λ e. omega (arith, fit.least)))
 
-  answered-alike : (a b count : ℕ) → Alike (readAnswered n img t a b count) (readAnswered n (without n img) t a b count)
-  unfolding readAnswered says bits_of
-  answered-alike a b count = record {
-    effect = same-counting;
+  answered_alike : (a b count : ℕ) → Alike (read_answered n img t a b count) (read_answered n (without n img) t a b count)
+  unfolding read_answered says bits_of
+  answered_alike a b count = record {
+    effect = same_counting;
     tag = refl;
-    bits = ap (λ (k : ℕ). 8 * (k + 2)) (length-pages _ a b count ∙ sym (length-pages _ a b count));
+    bits = ap (λ (k : ℕ). 8 * (k + 2)) (length_pages _ a b count ∙ sym (length_pages _ a b count));
   }
 
   either : (test : Bool) (o o' naks : Does) → Alike o o' → Alike (cond test o naks) (cond test o' naks)
@@ -127,8 +127,8 @@ module _ (n : ℕ) (img : List ℕ) (t : Tag) (fit : Fits n img) where
   either false o o' naks h = record { effect = refl; tag = refl; bits = refl }
 
   pub untouched : Untouched n img t
-  unfolding read fastRead
+  unfolding read fast_read
   untouched = record {
-    read = λ a. rw (← same-bound) (either (ltb a (bound n img t)) _ _ (nak t 0) (answered-alike a (bound n img t) 4));
-    fastRead = λ s e. rw (← same-bound) (either (leb s e && ltb e (bound n img t)) _ _ (nak t 0) (answered-alike s (bound n img t) (e + 1 - s)));
+    read = λ a. rw (← same_bound) (either (ltb a (bound n img t)) _ _ (nak t 0) (answered_alike a (bound n img t) 4));
+    fast_read = λ s e. rw (← same_bound) (either (leb s e && ltb e (bound n img t)) _ _ (nak t 0) (answered_alike s (bound n img t) (e + 1 - s)));
   }

@@ -2,11 +2,11 @@
 ghost use Rattle.std.specs.Prelude.{◌≡◌, ℕ, ◌+◌, ◌%◌, ◌≤◌, ◌<◌, length};
 ghost use Rattle.std.proofs.lemmas.List.Edits.{sets};
 ghost use Rattle.image.specs.Layout.{Fits, bytes_of};
-ghost use Rattle.image.specs.Shown.{shown, shownPage};
-ghost use Rattle.image.specs.Mirror.{mirrorFor, through};
+ghost use Rattle.image.specs.Shown.{shown, shown_page};
+ghost use Rattle.image.specs.Mirror.{mirror_for, through};
 ghost use Rattle.tag.specs.Outcome.{Did, Room, apply};
 ghost use Rattle.tag.specs.State.{authenticated, answering};
-ghost use Rattle.reads.specs.Read.{bound, counting, readAnswered, read, fastRead, Lays, Counts, Covers};
+ghost use Rattle.reads.specs.Read.{bound, counting, read_answered, read, fast_read, Lays, Counts, Covers};
 
 use basics::to_usize;
 use image::mirror::Mirror;
@@ -32,7 +32,7 @@ fn bound(image: &[u8], n: usize, tag: Tag) -> usize
 // A page as it is stored, into the answer from `at` on.
 fn lay_page(image: &[u8], answer: &mut [u8], n: usize, page: usize, at: usize)
     requires { Fits n image.now × (at ≤ 924) × (at + 4 ≤ length answer.old) }
-    ensures { answer.new ≡ sets answer.old at (bytes_of (shownPage n image.now page)) }
+    ensures { answer.new ≡ sets answer.old at (bytes_of (shown_page n image.now page)) }
 {
     image::layout::put_at(answer, at, image::shown::shown_page(image, n, page));
 }
@@ -99,7 +99,7 @@ fn lay_mirror(
     count: usize,
 )
     requires { Room n image.now answer.old × (first < b) × (b ≤ n) × (count ≤ 231) }
-    ensures { Covers n image.now (mirrorFor n image.now (authenticated tag)) first b count answer.old answer.new }
+    ensures { Covers n image.now (mirror_for n image.now (authenticated tag)) first b count answer.old answer.new }
 {
     let m = image::mirror::mirror_for(image, n, tag.authenticated());
     if m.length != 0 {
@@ -154,7 +154,7 @@ fn mirror_pages(
     pages: usize,
 )
     requires { Room n image.now answer.old × (first < b) × (b ≤ n) × (pages ≤ 231) }
-    ensures { Covers n image.now (mirrorFor n image.now (authenticated tag)) first b pages answer.old answer.new }
+    ensures { Covers n image.now (mirror_for n image.now (authenticated tag)) first b pages answer.old answer.new }
 {
     if image::mirror::is_chosen(image, n) {
         lay_mirror(image, answer, n, tag, first, b, pages);
@@ -163,7 +163,7 @@ fn mirror_pages(
 
 fn mirror_four(image: &[u8], answer: &mut [u8], n: usize, tag: Tag, first: usize, b: usize)
     requires { Room n image.now answer.old × (first < b) × (b ≤ n) }
-    ensures { Covers n image.now (mirrorFor n image.now (authenticated tag)) first b 4 answer.old answer.new }
+    ensures { Covers n image.now (mirror_for n image.now (authenticated tag)) first b 4 answer.old answer.new }
 {
     if image::mirror::is_chosen(image, n) {
         lay_mirror(image, answer, n, tag, first, b, 4);
@@ -181,7 +181,7 @@ fn give(
     pages: usize,
 ) -> Step
     requires { Room n image.old answer.old × (first < b) × (b ≤ n) × (pages ≤ 231) }
-    ensures { Did (readAnswered n image.old tag first b pages) result image.old image.new answer.old answer.new }
+    ensures { Did (read_answered n image.old tag first b pages) result image.old image.new answer.old answer.new }
 {
     let left = lay_counted(image, answer, n, tag, first, b, pages);
     mirror_pages(image, answer, n, tag, first, b, pages);
@@ -198,7 +198,7 @@ fn give_four(
     b: usize,
 ) -> Step
     requires { Room n image.old answer.old × (first < b) × (b ≤ n) }
-    ensures { Did (readAnswered n image.old tag first b 4) result image.old image.new answer.old answer.new }
+    ensures { Did (read_answered n image.old tag first b 4) result image.old image.new answer.old answer.new }
 {
     let left = lay_counted(image, answer, n, tag, first, b, 4);
     mirror_four(image, answer, n, tag, first, b);
@@ -220,7 +220,7 @@ pub fn read(image: &mut [u8], answer: &mut [u8], n: usize, tag: Tag, a: u8) -> S
 
 pub fn fast_read(image: &mut [u8], answer: &mut [u8], n: usize, tag: Tag, s: u8, e: u8) -> Step
     requires { Room n image.old answer.old }
-    ensures { Did (fastRead n image.old tag s e) result image.old image.new answer.old answer.new }
+    ensures { Did (fast_read n image.old tag s e) result image.old image.new answer.old answer.new }
 {
     let b = bound(image, n, tag);
     let first = to_usize(s);

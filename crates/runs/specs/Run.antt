@@ -1,9 +1,9 @@
 -- Runs of frames and field losses, with no bus event in them. Assumes nothing.
 use Rattle.std.specs.Prelude.{◌≡◌, List, [], ◌∷◌, Bool, ℕ}
-use Rattle.tag.specs.State.{fieldOff}
+use Rattle.tag.specs.State.{field_off}
 use Rattle.tag.specs.Outcome.{apply}
 use Rattle.tag.specs.declared.record.TagRecord.{TagRecord}
-use Rattle.tag.specs.Record.{recordOf, fieldLoss}
+use Rattle.tag.specs.Record.{record_of, field_loss}
 use Rattle.radio.specs.Call.{Called, called}
 
 -- a frame as the board hands it over, and the length of the answer buffer that it was lent
@@ -39,17 +39,17 @@ pub record Kept : Type 0 where
   pub rec : TagRecord
 
 -- "Start with the field off, any image"
-unfoldable pub fromOff : List ℕ → Kept
-fromOff img = record { image = img; rec = recordOf fieldOff }
+unfoldable pub from_off : List ℕ → Kept
+from_off img = record { image = img; rec = record_of field_off }
 
 -- "refused ones too, each on the image and tag record that the one before left"
 unfoldable pub next : Call → Kept → Input → Kept
 next call k (sent f) = let o = call k.image k.rec f in record { image = apply k.image o.effect; rec = o.left }
-next call k lost = record { image = k.image; rec = fieldLoss k.rec }
+next call k lost = record { image = k.image; rec = field_loss k.rec }
 
-unfoldable pub atEnd : Call → Kept → List Input → Kept
-atEnd call k [] = k
-atEnd call k (i ∷ is) = atEnd call (next call k i) is
+unfoldable pub at_end : Call → Kept → List Input → Kept
+at_end call k [] = k
+at_end call k (i ∷ is) = at_end call (next call k i) is
 
-unfoldable pub imageAfter : Call → List ℕ → List Input → List ℕ
-imageAfter call img run = (atEnd call (fromOff img) run).image
+unfoldable pub image_after : Call → List ℕ → List Input → List ℕ
+image_after call img run = (at_end call (from_off img) run).image

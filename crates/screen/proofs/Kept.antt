@@ -5,23 +5,23 @@ use Prim.Native.Nat.{ℕ, ◌+◌, ◌*◌, ◌-◌, ◌<◌}
 use native.Mathlib.Omega.{arith}
 use lib.ListN.{length, drop, get_or, length-take, length-drop}
 use lib.Seq.{ext_get_or, get_or-take, get_or-drop}
-use Rattle.locks.specs.Locks.{lockPage}
-use Rattle.locks.proofs.Lock.{by-size}
+use Rattle.locks.specs.Locks.{lock_page}
+use Rattle.locks.proofs.Lock.{by_size_lem}
 use Rattle.image.specs.declared.layout.Size.TheVariants.{Pages}
-use Rattle.image.specs.Layout.{size_of, fourAt, Fits}
+use Rattle.image.specs.Layout.{size_of, four_at, Fits}
 use Rattle.screen.specs.Blocks.{counted, block, blocks, walk, BlockByBlock}
-use Rattle.screen.specs.Reading.{isReading, lowFirstFour, verdictAt}
-use Rattle.screen.specs.Screen.{readingSeen, foundSeen, userBytes, seen}
+use Rattle.screen.specs.Reading.{is_reading, low_first_four, verdict_at}
+use Rattle.screen.specs.Screen.{reading_seen, found_seen, user_bytes, seen}
 use Rattle.screen.specs.Promises.{Ages, SameUserPages, Promises}
 use Rattle.screen.specs.Examples.{Examples}
 use Rattle.screen.proofs.Walking.{goes, only, stops}
-use Rattle.screen.proofs.Seeing.{age-ahead, age-live, age-old}
+use Rattle.screen.proofs.Seeing.{age_ahead, age_live, age_old}
 
 ages : Ages
 ages = record {
-  live = λ second age h. sym (age-live (second + age) second (omega arith) (omega arith));
-  old = λ second age h. sym (age-old (second + age) second (omega arith) (omega arith));
-  ahead = λ present second h. sym (age-ahead present second h);
+  live = λ second age h. sym (age_live (second + age) second (omega arith) (omega arith));
+  old = λ second age h. sym (age_old (second + age) second (omega arith) (omega arith));
+  ahead = λ present second h. sym (age_ahead present second h);
 }
 
 -- ---- the user pages
@@ -29,43 +29,43 @@ ages = record {
 module _ (n : ℕ) (img : List ℕ) (f : Fits n img) where
   pub sized : size_of (length img) ≡ Pages n
   unfolding size_of
-  sized = ap size_of f.whole ∙ by-size (λ (k : ℕ). size_of (4 * k + 4) ≡ Pages k) refl refl refl f.size
+  sized = ap size_of f.whole ∙ by_size_lem (λ (k : ℕ). size_of (4 * k + 4) ≡ Pages k) refl refl refl f.size
 
-  pub seen-there : (present : ℕ) → seen img present ≡ foundSeen (walk (userBytes n img)) present
+  pub seen_there : (present : ℕ) → seen img present ≡ found_seen (walk (user_bytes n img)) present
   unfolding seen
-  seen-there present = rw sized
+  seen_there present = rw sized
 
-  many : length (userBytes n img) ≡ 4 * lockPage n - 4 * 0x04
-  unfolding userBytes
+  many : length (user_bytes n img) ≡ 4 * lock_page n - 4 * 0x04
+  unfolding user_bytes
   many = simp (length-take, length-drop) (omega (arith, f.whole, f.least))
 
-  byte-there : (i : ℕ) → i < length (userBytes n img) → get_or (userBytes n img) i 0 ≡ get_or img (4 * 0x04 + i) 0
-  unfolding userBytes
-  byte-there i h = get_or-take (4 * lockPage n - 4 * 0x04) (drop (4 * 0x04) img) i 0 (omega (arith, many)) ∙ get_or-drop (4 * 0x04) img i 0
+  byte_there : (i : ℕ) → i < length (user_bytes n img) → get_or (user_bytes n img) i 0 ≡ get_or img (4 * 0x04 + i) 0
+  unfolding user_bytes
+  byte_there i h = get_or-take (4 * lock_page n - 4 * 0x04) (drop (4 * 0x04) img) i 0 (omega (arith, many)) ∙ get_or-drop (4 * 0x04) img i 0
 
 module _ (n : ℕ) (img img' : List ℕ) (s : SameUserPages n img img') where
-  same-many : length (userBytes n img) ≡ length (userBytes n img')
-  same-many = many n img s.one ∙ sym (many n img' s.other)
+  same_many : length (user_bytes n img) ≡ length (user_bytes n img')
+  same_many = many n img s.one ∙ sym (many n img' s.other)
 
-  same_bytes : userBytes n img ≡ userBytes n img'
-  same_bytes = ext_get_or 0 (userBytes n img) (userBytes n img') same-many each
+  same_bytes : user_bytes n img ≡ user_bytes n img'
+  same_bytes = ext_get_or 0 (user_bytes n img) (user_bytes n img') same_many each
     where
-      each : (i : ℕ) → i < length (userBytes n img) → get_or (userBytes n img) i 0 ≡ get_or (userBytes n img') i 0
+      each : (i : ℕ) → i < length (user_bytes n img) → get_or (user_bytes n img) i 0 ≡ get_or (user_bytes n img') i 0
       each i h =
-          byte-there n img s.one i h
+          byte_there n img s.one i h
           ∙ s.bytes (4 * 0x04 + i) (omega arith) (omega (arith, many n img s.one))
-          ∙ sym (byte-there n img' s.other i (omega (arith, same-many)))
+          ∙ sym (byte_there n img' s.other i (omega (arith, same_many)))
 
   same_seen : (present : ℕ) → seen img present ≡ seen img' present
   same_seen present =
-      seen-there n img s.one present
-      ∙ ap (λ (xs : List ℕ). foundSeen (walk xs) present) same_bytes
-      ∙ sym (seen-there n img' s.other present)
+      seen_there n img s.one present
+      ∙ ap (λ (xs : List ℕ). found_seen (walk xs) present) same_bytes
+      ∙ sym (seen_there n img' s.other present)
 
 -- ---- the theorems
 
-pub block-by-block : BlockByBlock
-block-by-block = record { goes = goes; only = only }
+pub block_by_block : BlockByBlock
+block_by_block = record { goes = goes; only = only }
 
 pub promises : Promises
 promises = record {
@@ -77,23 +77,23 @@ promises = record {
 
 -- each by computing both sides
 pub examples : Examples
-unfolding walk blocks block counted isReading lowFirstFour fourAt verdictAt readingSeen
+unfolding walk blocks block counted is_reading low_first_four four_at verdict_at reading_seen
 examples = record {
   alone = refl;
-  behindLockControl = refl;
-  behindNulls = refl;
-  longLength = refl;
-  lowByteFirst = refl;
-  firstOfTwo = refl;
-  behindTheEnd = refl;
-  noLength = refl;
-  oneByteShort = refl;
-  toTheEnd = refl;
-  sameSecond = refl;
-  lastLive = refl;
-  firstOld = refl;
+  behind_lock_control = refl;
+  behind_nulls = refl;
+  long_length = refl;
+  low_byte_first = refl;
+  first_of_two = refl;
+  behind_the_end = refl;
+  no_length = refl;
+  one_byte_short = refl;
+  to_the_end = refl;
+  same_second = refl;
+  last_live = refl;
+  first_old = refl;
   latest = refl;
-  oneAhead = refl;
+  one_ahead = refl;
   empty = refl;
-  twelveBytes = refl;
+  twelve_bytes = refl;
 }

@@ -9,8 +9,8 @@ use lib.ListN.{length, take, drop, get_or, length-drop, drop_of_length-le}
 use lib.Seq.{drop-cons, drop-drop}
 use borrow.Author.Tests.{eq-eqb, ne_eqb, lt-leb, le-leb}
 use Rattle.basics.specs.Bytes.{low_first}
-use Rattle.basics.proofs.Choice.{same-either}
-use Rattle.screen.specs.Blocks.{Value, holds, passes, counted, longValue, value_of, Found, message, nowhere, cut, block, walk, spanned, SpanFits, StopFits}
+use Rattle.basics.proofs.Choice.{same_either}
+use Rattle.screen.specs.Blocks.{Value, holds, passes, counted, long_value, value_of, Found, message, nowhere, cut, block, walk, spanned, SpanFits, StopFits}
 use Rattle.screen.specs.declared.blocks.Span.{Span}
 use Rattle.screen.specs.declared.blocks.Span.TheVariants as span
 use Rattle.screen.specs.declared.blocks.Stop.{Stop}
@@ -18,9 +18,9 @@ use Rattle.screen.specs.declared.blocks.Stop.TheVariants as stop
 use Rattle.screen.proofs.Walking.{goes}
 
 -- a span that lies behind a place lies behind one before it
-pub span-before : (xs : List ℕ) (at k : ℕ) (r : Span) → SpanFits (at + k) xs r → SpanFits at xs r
-span-before xs at k (span.At from to) h = (omega arith, h.1, h.2)
-span-before xs at k span.Passes h = tt
+pub span_before : (xs : List ℕ) (at k : ℕ) (r : Span) → SpanFits (at + k) xs r → SpanFits at xs r
+span_before xs at k (span.At from to) h = (omega arith, h.1, h.2)
+span_before xs at k span.Passes h = tt
 
 -- ---- the bytes that are counted
 
@@ -48,22 +48,22 @@ module _ (xs : List ℕ) (at : ℕ) where
   no_length h = rw (drop_of_length-le xs h)
 
   module _ (n : ℕ) (e : n ≡ get_or xs at 0) (h : at < length xs) (v : Value) where
-    pub length-long : n ≡ 0xFF → v ≡ longValue (drop (at + 1) xs) → v ≡ value_of (drop at xs)
-    length-long l f = rw (opened xs at h, ← e, eq-eqb n 0xFF l) f
+    pub length_long : n ≡ 0xFF → v ≡ long_value (drop (at + 1) xs) → v ≡ value_of (drop at xs)
+    length_long l f = rw (opened xs at h, ← e, eq-eqb n 0xFF l) f
 
-    pub length-plain : (n ≡ 0xFF → ⊥) → (k : ℕ) → k ≡ n → v ≡ counted k (drop (at + 1) xs) → v ≡ value_of (drop at xs)
-    length-plain l k p f = rw (opened xs at h, ← e, ne_eqb n 0xFF l, ← p) f
+    pub length_plain : (n ≡ 0xFF → ⊥) → (k : ℕ) → k ≡ n → v ≡ counted k (drop (at + 1) xs) → v ≡ value_of (drop at xs)
+    length_plain l k p f = rw (opened xs at h, ← e, ne_eqb n 0xFF l, ← p) f
 
-  pub short-length : length xs - at < 2 → passes ≡ longValue (drop at xs)
-  short-length h = short (drop at xs) (omega (arith, length-drop at xs))
+  pub short_length : length xs - at < 2 → passes ≡ long_value (drop at xs)
+  short_length h = short (drop at xs) (omega (arith, length-drop at xs))
     where
-      short : (ys : List ℕ) → length ys < 2 → passes ≡ longValue ys
+      short : (ys : List ℕ) → length ys < 2 → passes ≡ long_value ys
       short [] l = refl
       short (x ∷ []) l = refl
       short (x ∷ y ∷ ys) l = absurd (omega arith)
 
   pub two_bytes : (k : ℕ) (v : Value) → 2 ≤ length xs - at → k ≡ low_first (get_or xs (at + 1) 0) (get_or xs at 0) → v ≡ counted k (drop (at + 2) xs)
-      → v ≡ longValue (drop at xs)
+      → v ≡ long_value (drop at xs)
   two_bytes k v h e f =
       let p : at + 1 + 1 ≡ at + 2 = omega arith in
       let l : at + 1 < length xs = omega arith in
@@ -74,9 +74,9 @@ module _ (xs : List ℕ) (at : ℕ) where
 
 -- it has come to `at`, and what it finds from there on is what it finds
 module _ (xs : List ℕ) (at : ℕ) (inv : walk (drop at xs) ≡ walk xs) where
-  pub walk-over : length xs ≤ at → nowhere ≡ walk xs
+  pub walk_over : length xs ≤ at → nowhere ≡ walk xs
   unfolding block
-  walk-over h = sym (goes []) ∙ ap walk (sym (drop_of_length-le xs h)) ∙ inv
+  walk_over h = sym (goes []) ∙ ap walk (sym (drop_of_length-le xs h)) ∙ inv
 
   module _ (inside : at < length xs) where
     abbrev kind : ℕ
@@ -92,23 +92,23 @@ module _ (xs : List ℕ) (at : ℕ) (inv : walk (drop at xs) ≡ walk xs) where
     unfolding block
     walk_ends k = let z : nowhere ≡ here = rw k in z ∙ reached
 
-    pub walk-null : kind ≡ 0x00 → walk (drop (at + 1) xs) ≡ walk xs
+    pub walk_null : kind ≡ 0x00 → walk (drop (at + 1) xs) ≡ walk xs
     unfolding block
-    walk-null k = let z : walk (drop (at + 1) xs) ≡ here = rw k in z ∙ reached
+    walk_null k = let z : walk (drop (at + 1) xs) ≡ here = rw k in z ∙ reached
 
     module _ (some : kind ≡ 0x00 → ⊥) (goes_on : kind ≡ 0xFE → ⊥) (r : Span) (told : spanned r xs ≡ value_of (drop (at + 1) xs)) where
-      pub walk-message : (from to : ℕ) → kind ≡ 0x03 → r ≡ span.At from to → message (take (to - from) (drop from xs)) ≡ walk xs
+      pub walk_message : (from to : ℕ) → kind ≡ 0x03 → r ≡ span.At from to → message (take (to - from) (drop from xs)) ≡ walk xs
       unfolding block
-      walk-message from to k s = let z : message (take (to - from) (drop from xs)) ≡ here = rw (k, ← told, s) in z ∙ reached
+      walk_message from to k s = let z : message (take (to - from) (drop from xs)) ≡ here = rw (k, ← told, s) in z ∙ reached
 
-      pub walk-on : (from to : ℕ) → (kind ≡ 0x03 → ⊥) → r ≡ span.At from to → walk (drop to xs) ≡ walk xs
+      pub walk_on : (from to : ℕ) → (kind ≡ 0x03 → ⊥) → r ≡ span.At from to → walk (drop to xs) ≡ walk xs
       unfolding block
-      walk-on from to k s =
+      walk_on from to k s =
           let z : walk (drop to xs) ≡ here = rw (ne_eqb kind 0x00 some, ne_eqb kind 0xFE goes_on, ne_eqb kind 0x03 k, ← told, s) in z ∙ reached
 
-      pub walk-cut : r ≡ span.Passes → cut ≡ walk xs
+      pub walk_cut : r ≡ span.Passes → cut ≡ walk xs
       unfolding block
-      walk-cut s = let z : cut ≡ here = rw (ne_eqb kind 0x00 some, ne_eqb kind 0xFE goes_on, ← told, s) (same-either (eqb kind 0x03) cut) in z ∙ reached
+      walk_cut s = let z : cut ≡ here = rw (ne_eqb kind 0x00 some, ne_eqb kind 0xFE goes_on, ← told, s) (same_either (eqb kind 0x03) cut) in z ∙ reached
 
 -- ---- places
 
@@ -116,23 +116,23 @@ module _ (xs : List ℕ) (at from to : ℕ) (r : Span) (h : SpanFits at xs r) (e
   places : (at ≤ from) × (from ≤ to) × (to ≤ length xs)
   places = subst (SpanFits at xs) e h
 
-  pub begins-before : from ≤ to
-  begins-before = places.1
+  pub begins_before : from ≤ to
+  begins_before = places.1
 
-  pub ends-within : to ≤ length xs
-  ends-within = places.2
+  pub ends_within : to ≤ length xs
+  ends_within = places.2
 
 -- and each block is behind the one before
-pub less-left : (xs : List ℕ) (at from to : ℕ) (r : Span) → SpanFits (at + 1) xs r → r ≡ span.At from to → at < length xs → length xs - to < length xs - at
-less-left xs at from to r h e l = omega (arith, places xs (at + 1) from to r h e)
+pub less_left : (xs : List ℕ) (at from to : ℕ) (r : Span) → SpanFits (at + 1) xs r → r ≡ span.At from to → at < length xs → length xs - to < length xs - at
+less_left xs at from to r h e l = omega (arith, places xs (at + 1) from to r h e)
 
 -- a message lies within the bytes
 module _ (xs : List ℕ) (from to : ℕ) (s : Stop) (h : StopFits xs s) (e : s ≡ stop.Message from to) where
-  message-places : (from ≤ to) × (to ≤ length xs)
-  message-places = subst (StopFits xs) e h
+  message_places : (from ≤ to) × (to ≤ length xs)
+  message_places = subst (StopFits xs) e h
 
-  pub message-begins : from ≤ to
-  message-begins = message-places.0
+  pub message_begins : from ≤ to
+  message_begins = message_places.0
 
-  pub message-ends : to ≤ length xs
-  message-ends = message-places.1
+  pub message_ends : to ≤ length xs
+  message_ends = message_places.1

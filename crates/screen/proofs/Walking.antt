@@ -10,7 +10,7 @@ use lib.Seq.{length-take-le, take_at, drop_at}
 use borrow.Author.Tests.{leb-true, le-leb}
 use Rattle.basics.specs.Bytes.{low_first}
 use Rattle.basics.proofs.Choice.{by, never}
-use Rattle.screen.specs.Blocks.{Value, holds, passes, counted, longValue, value_of, Found, message, nowhere, cut, taken, passedOver, block, blocks, walk}
+use Rattle.screen.specs.Blocks.{Value, holds, passes, counted, long_value, value_of, Found, message, nowhere, cut, taken, passed_over, block, blocks, walk}
 use Rattle.screen.specs.Promises.{StopsAt}
 
 -- ---- a length and the bytes that it counts
@@ -42,7 +42,7 @@ cuts : (xs : List ℕ) → Cuts xs (value_of xs)
 cuts [] = tt
 cuts (n ∷ xs) = by (Cuts (n ∷ xs)) (eqb n 0xFF) (λ e. long xs e) (λ e. counts (n ∷ []) n xs (λ ys. rw e))
   where
-    long : (xs : List ℕ) → eqb n 0xFF ≡ true → Cuts (n ∷ xs) (longValue xs)
+    long : (xs : List ℕ) → eqb n 0xFF ≡ true → Cuts (n ∷ xs) (long_value xs)
     long [] e = tt
     long (high ∷ []) e = tt
     long (high ∷ low ∷ xs) e = counts (n ∷ high ∷ low ∷ []) (low_first low high) xs (λ ys. rw e)
@@ -54,9 +54,9 @@ shorter xs a b c = omega (arith, ap length c.whole, length-append c.front (a ++ 
 -- ---- one block
 
 module _ (f g : List ℕ → Found) where
-  passed-same : (xs : List ℕ) (v : Value) → Cuts xs v → ((ys : List ℕ) → length ys ≤ length xs → f ys ≡ g ys) → passedOver f v ≡ passedOver g v
-  passed-same xs (holds a b) c same = same b (shorter xs a b c)
-  passed-same xs passes c same = refl
+  passed_same : (xs : List ℕ) (v : Value) → Cuts xs v → ((ys : List ℕ) → length ys ≤ length xs → f ys ≡ g ys) → passed_over f v ≡ passed_over g v
+  passed_same xs (holds a b) c same = same b (shorter xs a b c)
+  passed_same xs passes c same = refl
 
   -- a block asks only for what is behind it
   block_same : (xs : List ℕ) → ((ys : List ℕ) → length ys < length xs → f ys ≡ g ys) → block f xs ≡ block g xs
@@ -64,7 +64,7 @@ module _ (f g : List ℕ → Found) where
   block_same [] same = refl
   block_same (type ∷ xs) same =
       let p : f xs ≡ g xs = same xs (omega arith) in
-      let q : passedOver f (value_of xs) ≡ passedOver g (value_of xs) = passed-same xs (value_of xs) (cuts xs) (λ ys h. same ys (omega arith)) in
+      let q : passed_over f (value_of xs) ≡ passed_over g (value_of xs) = passed_same xs (value_of xs) (cuts xs) (λ ys h. same ys (omega arith)) in
       rw (p, q)
 
 -- ---- block by block
@@ -100,24 +100,24 @@ record First (xs m : List ℕ) : Type 0 where
   whole : xs ≡ front ++ (m ++ rest)
   any : (ys : List ℕ) → walk (front ++ (m ++ ys)) ≡ message m
 
-abbrev isMessage : Found → Bool
-isMessage (message m) = true
-isMessage nowhere = false
-isMessage cut = false
+abbrev is_message : Found → Bool
+is_message (message m) = true
+is_message nowhere = false
+is_message cut = false
 
-no-message : {C : Type 0} {m : List ℕ} (f : Found) → isMessage f ≡ false → f ≡ message m → C
-no-message f e h = never (sym (ap isMessage h) ∙ e)
+no_message : {C : Type 0} {m : List ℕ} (f : Found) → is_message f ≡ false → f ≡ message m → C
+no_message f e h = never (sym (ap is_message h) ∙ e)
 
 module _ (type : ℕ) (xs m : List ℕ) where
-  first-null : eqb type 0x00 ≡ true → First xs m → First (type ∷ xs) m
+  first_null : eqb type 0x00 ≡ true → First xs m → First (type ∷ xs) m
   unfolding block
-  first-null e f =
+  first_null e f =
       record { front = type ∷ f.front; rest = f.rest; whole = ap (λ (l : List ℕ). type ∷ l) f.whole; any = λ ys. goes (type ∷ (f.front ++ (m ++ ys))) ∙ rw e (f.any ys) }
 
   module _ (some : eqb type 0x00 ≡ false) (goes_on : eqb type 0xFE ≡ false) where
-    first-here : eqb type 0x03 ≡ true → (v : Value) → Cuts xs v → taken v ≡ message m → First (type ∷ xs) m
+    first_here : eqb type 0x03 ≡ true → (v : Value) → Cuts xs v → taken v ≡ message m → First (type ∷ xs) m
     unfolding block
-    first-here e (holds a b) c h =
+    first_here e (holds a b) c h =
         let p : a ≡ m = cc in
         rw (← p)
         (record {
@@ -126,12 +126,12 @@ module _ (type : ℕ) (xs m : List ℕ) where
           whole = ap (λ (l : List ℕ). type ∷ l) c.whole;
           any = λ ys. goes (type ∷ (c.front ++ (a ++ ys))) ∙ rw (some, goes_on, e, c.any ys);
         })
-    first-here e passes c h = no-message cut refl h
+    first_here e passes c h = no_message cut refl h
 
-    first_past : (goOn : List ℕ → Found) → ((ys : List ℕ) → goOn ys ≡ message m → First ys m) → eqb type 0x03 ≡ false
-        → (v : Value) → Cuts xs v → passedOver goOn v ≡ message m → First (type ∷ xs) m
+    first_past : (go_on : List ℕ → Found) → ((ys : List ℕ) → go_on ys ≡ message m → First ys m) → eqb type 0x03 ≡ false
+        → (v : Value) → Cuts xs v → passed_over go_on v ≡ message m → First (type ∷ xs) m
     unfolding block
-    first_past goOn behind e (holds a b) c h =
+    first_past go_on behind e (holds a b) c h =
         let f : First b m = behind b h in
         let joined : (zs : List ℕ) → (c.front ++ (a ++ f.front)) ++ zs ≡ c.front ++ (a ++ (f.front ++ zs)) = λ zs. simp append_assoc in
         record {
@@ -140,25 +140,25 @@ module _ (type : ℕ) (xs m : List ℕ) where
           whole = ap (λ (l : List ℕ). type ∷ l) (c.whole ∙ ap (λ (l : List ℕ). c.front ++ (a ++ l)) f.whole ∙ sym (joined (m ++ f.rest)));
           any = λ ys. ap (λ (l : List ℕ). walk (type ∷ l)) (joined (m ++ ys)) ∙ goes (type ∷ (c.front ++ (a ++ (f.front ++ (m ++ ys))))) ∙ rw (some, goes_on, e, c.any (f.front ++ (m ++ ys))) (f.any ys);
         }
-    first_past goOn behind e passes c h = no-message cut refl h
+    first_past go_on behind e passes c h = no_message cut refl h
 
-  first_block : (goOn : List ℕ → Found) → ((ys : List ℕ) → goOn ys ≡ message m → First ys m) → block goOn (type ∷ xs) ≡ message m → First (type ∷ xs) m
+  first_block : (go_on : List ℕ → Found) → ((ys : List ℕ) → go_on ys ≡ message m → First ys m) → block go_on (type ∷ xs) ≡ message m → First (type ∷ xs) m
   unfolding block
-  first_block goOn behind =
+  first_block go_on behind =
       let P : Found → Type 0 = λ f. f ≡ message m → First (type ∷ xs) m in
-      by P (eqb type 0x00) (λ e h. first-null e (behind xs h))
-      (λ some. by P (eqb type 0xFE) (λ e h. no-message nowhere refl h)
-      (λ goes_on. by P (eqb type 0x03) (λ e. first-here some goes_on e (value_of xs) (cuts xs)) (λ e. first_past some goes_on goOn behind e (value_of xs) (cuts xs))))
+      by P (eqb type 0x00) (λ e h. first_null e (behind xs h))
+      (λ some. by P (eqb type 0xFE) (λ e h. no_message nowhere refl h)
+      (λ goes_on. by P (eqb type 0x03) (λ e. first_here some goes_on e (value_of xs) (cuts xs)) (λ e. first_past some goes_on go_on behind e (value_of xs) (cuts xs))))
 
 first : (most : ℕ) (xs m : List ℕ) → blocks most xs ≡ message m → First xs m
 unfolding blocks block
-first zero xs m h = no-message nowhere refl h
-first (suc most) [] m h = no-message nowhere refl h
+first zero xs m h = no_message nowhere refl h
+first (suc most) [] m h = no_message nowhere refl h
 first (suc most) (type ∷ xs) m h = first_block type xs m (blocks most) (λ ys. first most ys m) h
 
 pub stops : (xs m : List ℕ) → walk xs ≡ message m → StopsAt xs m
 unfolding walk
-stops xs m h = record { end = end; within = (omega arith, omega (arith, ap length cut-there, length-append (f.front ++ m) f.rest, l)); bytes = bytes; alone = alone }
+stops xs m h = record { end = end; within = (omega arith, omega (arith, ap length cut_there, length-append (f.front ++ m) f.rest, l)); bytes = bytes; alone = alone }
   where
     f : First xs m
     f = first (length xs) xs m h
@@ -169,14 +169,14 @@ stops xs m h = record { end = end; within = (omega arith, omega (arith, ap lengt
     l : length (f.front ++ m) ≡ end
     l = length-append f.front m
 
-    cut-there : xs ≡ (f.front ++ m) ++ f.rest
-    cut-there = f.whole ∙ sym (append_assoc f.front m f.rest)
+    cut_there : xs ≡ (f.front ++ m) ++ f.rest
+    cut_there = f.whole ∙ sym (append_assoc f.front m f.rest)
 
-    taken-there : take end xs ≡ f.front ++ m
-    taken-there = ap (take end) cut-there ∙ take_at (f.front ++ m) f.rest end l
+    taken_there : take end xs ≡ f.front ++ m
+    taken_there = ap (take end) cut_there ∙ take_at (f.front ++ m) f.rest end l
 
     bytes : drop (end - length m) (take end xs) ≡ m
-    bytes = let p : length f.front ≡ end - length m = omega arith in rw taken-there (drop_at f.front m (end - length m) p)
+    bytes = let p : length f.front ≡ end - length m = omega arith in rw taken_there (drop_at f.front m (end - length m) p)
 
     alone : (ys : List ℕ) → walk (take end xs ++ ys) ≡ message m
-    alone ys = rw (taken-there, append_assoc) (f.any ys)
+    alone ys = rw (taken_there, append_assoc) (f.any ys)

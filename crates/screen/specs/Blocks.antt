@@ -18,14 +18,14 @@ unfoldable pub counted : ℕ → List ℕ → Value
 counted n xs = cond (leb n (length xs)) (holds (take n xs) (drop n xs)) passes
 
 -- "lengths are one byte or FFh and two, high byte first"
-abbrev pub longValue : List ℕ → Value
-longValue [] = passes
-longValue (high ∷ []) = passes
-longValue (high ∷ low ∷ xs) = counted (low_first low high) xs
+abbrev pub long_value : List ℕ → Value
+long_value [] = passes
+long_value (high ∷ []) = passes
+long_value (high ∷ low ∷ xs) = counted (low_first low high) xs
 
 abbrev pub value_of : List ℕ → Value
 value_of [] = passes
-value_of (n ∷ xs) = cond (eqb n 0xFF) (longValue xs) (counted n xs)
+value_of (n ∷ xs) = cond (eqb n 0xFF) (long_value xs) (counted n xs)
 
 -- ---- the walk
 
@@ -39,18 +39,18 @@ abbrev pub taken : Value → Found
 taken (holds bytes behind) = message bytes
 taken passes = cut
 
-abbrev pub passedOver : (List ℕ → Found) → Value → Found
-passedOver goOn (holds bytes behind) = goOn behind
-passedOver goOn passes = cut
+abbrev pub passed_over : (List ℕ → Found) → Value → Found
+passed_over go_on (holds bytes behind) = go_on behind
+passed_over go_on passes = cut
 
--- one block, and behind it `goOn`: "00h is one byte, FEh ends"; "Take the first block of type 03h"; a block of any other type is passed
+-- one block, and behind it `go_on`: "00h is one byte, FEh ends"; "Take the first block of type 03h"; a block of any other type is passed
 -- over, and the end of the bytes ends the walk too
 unfoldable pub block : (List ℕ → Found) → List ℕ → Found
-block goOn [] = nowhere
-block goOn (type ∷ xs) =
-    cond (eqb type 0x00) (goOn xs)
+block go_on [] = nowhere
+block go_on (type ∷ xs) =
+    cond (eqb type 0x00) (go_on xs)
     (cond (eqb type 0xFE) nowhere
-    (cond (eqb type 0x03) (taken (value_of xs)) (passedOver goOn (value_of xs))))
+    (cond (eqb type 0x03) (taken (value_of xs)) (passed_over go_on (value_of xs))))
 
 -- at most so many blocks
 unfoldable pub blocks : ℕ → List ℕ → Found

@@ -1,7 +1,7 @@
 -- Readings as bytes, and what the definitions say of them: each line is computed by the checker. Assumes nothing.
 use Rattle.std.specs.Prelude.{◌≡◌, List, [], ◌∷◌, ◌++◌, ℕ}
 use Rattle.screen.specs.Blocks.{walk, message, nowhere, cut}
-use Rattle.screen.specs.Screen.{Seen, reads, refused, foundSeen}
+use Rattle.screen.specs.Screen.{Seen, reads, refused, found_seen}
 use Rattle.screen.specs.declared.reading.Verdict.TheVariants.{Live, Old, Ahead}
 
 -- D5 00 08, the second 25800, which is 64C8h, and 42 W
@@ -9,30 +9,30 @@ abbrev pub reading : List ℕ
 reading = 0xD5 ∷ 0x00 ∷ 0x08 ∷ 0xC8 ∷ 0x64 ∷ 0x00 ∷ 0x00 ∷ 0x2A ∷ 0x00 ∷ 0x00 ∷ 0x00 ∷ []
 
 -- and its block, with FEh behind it
-abbrev pub readingBlock : List ℕ
-readingBlock = 0x03 ∷ 0x0B ∷ reading ++ (0xFE ∷ [])
+abbrev pub reading_block : List ℕ
+reading_block = 0x03 ∷ 0x0B ∷ reading ++ (0xFE ∷ [])
 
-abbrev pub lockControl : List ℕ
-lockControl = 0x01 ∷ 0x03 ∷ 0xA0 ∷ 0x0C ∷ 0x34 ∷ []
+abbrev pub lock_control : List ℕ
+lock_control = 0x01 ∷ 0x03 ∷ 0xA0 ∷ 0x0C ∷ 0x34 ∷ []
 
 abbrev pub said : List ℕ → ℕ → Seen
-said xs present = foundSeen (walk xs) present
+said xs present = found_seen (walk xs) present
 
 pub record Examples : Type 0 where
-  pub alone : walk readingBlock ≡ message reading
-  pub behindLockControl : walk (lockControl ++ readingBlock) ≡ message reading
-  pub behindNulls : walk (0x00 ∷ 0x00 ∷ readingBlock) ≡ message reading
-  pub longLength : walk (0x03 ∷ 0xFF ∷ 0x00 ∷ 0x0B ∷ reading) ≡ message reading
-  pub lowByteFirst : walk (0x03 ∷ 0xFF ∷ 0x0B ∷ 0x00 ∷ reading) ≡ cut
-  pub firstOfTwo : walk (0x03 ∷ 0x00 ∷ readingBlock) ≡ message []
-  pub behindTheEnd : walk (0xFE ∷ readingBlock) ≡ nowhere
-  pub noLength : walk (0x01 ∷ []) ≡ cut
-  pub oneByteShort : walk (0x01 ∷ 0x0C ∷ reading) ≡ cut
-  pub toTheEnd : walk (0x01 ∷ 0x0B ∷ reading) ≡ nowhere
-  pub sameSecond : said readingBlock 25800 ≡ reads Live 42 25800
-  pub lastLive : said readingBlock 26700 ≡ reads Live 42 25800
-  pub firstOld : said readingBlock 26701 ≡ reads Old 42 25800
-  pub latest : said readingBlock 4294967295 ≡ reads Old 42 25800
-  pub oneAhead : said readingBlock 25799 ≡ reads Ahead 42 25800
+  pub alone : walk reading_block ≡ message reading
+  pub behind_lock_control : walk (lock_control ++ reading_block) ≡ message reading
+  pub behind_nulls : walk (0x00 ∷ 0x00 ∷ reading_block) ≡ message reading
+  pub long_length : walk (0x03 ∷ 0xFF ∷ 0x00 ∷ 0x0B ∷ reading) ≡ message reading
+  pub low_byte_first : walk (0x03 ∷ 0xFF ∷ 0x0B ∷ 0x00 ∷ reading) ≡ cut
+  pub first_of_two : walk (0x03 ∷ 0x00 ∷ reading_block) ≡ message []
+  pub behind_the_end : walk (0xFE ∷ reading_block) ≡ nowhere
+  pub no_length : walk (0x01 ∷ []) ≡ cut
+  pub one_byte_short : walk (0x01 ∷ 0x0C ∷ reading) ≡ cut
+  pub to_the_end : walk (0x01 ∷ 0x0B ∷ reading) ≡ nowhere
+  pub same_second : said reading_block 25800 ≡ reads Live 42 25800
+  pub last_live : said reading_block 26700 ≡ reads Live 42 25800
+  pub first_old : said reading_block 26701 ≡ reads Old 42 25800
+  pub latest : said reading_block 4294967295 ≡ reads Old 42 25800
+  pub one_ahead : said reading_block 25799 ≡ reads Ahead 42 25800
   pub empty : said (0x03 ∷ 0x00 ∷ 0xFE ∷ []) 0 ≡ refused 22
-  pub twelveBytes : said (0x03 ∷ 0x0C ∷ reading ++ (0x00 ∷ [])) 0 ≡ refused 22
+  pub twelve_bytes : said (0x03 ∷ 0x0C ∷ reading ++ (0x00 ∷ [])) 0 ≡ refused 22

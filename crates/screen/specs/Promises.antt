@@ -1,18 +1,18 @@
 -- What follows from the definitions, for every image and every second: proofs/Kept.antt has the proofs. Assumes nothing.
 use Rattle.std.specs.Prelude.{◌≡◌, List, ◌++◌, ℕ, ◌+◌, ◌*◌, ◌-◌, ◌<◌, ◌≤◌, length, take, drop, get_or}
-use Rattle.locks.specs.Locks.{lockPage}
+use Rattle.locks.specs.Locks.{lock_page}
 use Rattle.image.specs.Layout.{Fits}
 use Rattle.screen.specs.Blocks.{walk, message}
-use Rattle.screen.specs.Reading.{verdictAt}
+use Rattle.screen.specs.Reading.{verdict_at}
 use Rattle.screen.specs.Screen.{seen, answer_of}
 use Rattle.screen.specs.declared.reading.Verdict.TheVariants.{Live, Old, Ahead}
 use Rattle.screen.specs.declared.call.ScreenAnswer.{ScreenAnswer}
 
 -- "live if the reading is 0 to 900 seconds old, old if more, ahead if it lies in the future": over all numbers, so that nothing wraps
 pub record Ages : Type 0 where
-  pub live : (second age : ℕ) → age ≤ 900 → verdictAt (second + age) second ≡ Live
-  pub old : (second age : ℕ) → 901 ≤ age → verdictAt (second + age) second ≡ Old
-  pub ahead : (present second : ℕ) → present < second → verdictAt present second ≡ Ahead
+  pub live : (second age : ℕ) → age ≤ 900 → verdict_at (second + age) second ≡ Live
+  pub old : (second age : ℕ) → 901 ≤ age → verdict_at (second + age) second ≡ Old
+  pub ahead : (present second : ℕ) → present < second → verdict_at present second ≡ Ahead
 
 -- "Take the first block of type 03h": it ends at a place of the bytes xs, and with whatever bytes behind that place it is found the same
 pub record StopsAt (xs m : List ℕ) : Type 0 where
@@ -25,7 +25,7 @@ pub record StopsAt (xs m : List ℕ) : Type 0 where
 pub record SameUserPages (n : ℕ) (img img' : List ℕ) : Type 0 where
   pub one : Fits n img
   pub other : Fits n img'
-  pub bytes : (i : ℕ) → 4 * 0x04 ≤ i → i < 4 * lockPage n → get_or img i 0 ≡ get_or img' i 0
+  pub bytes : (i : ℕ) → 4 * 0x04 ≤ i → i < 4 * lock_page n → get_or img i 0 ≡ get_or img' i 0
 
 pub record Promises : Type 0 where
   pub ages : Ages

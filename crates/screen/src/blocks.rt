@@ -1,6 +1,6 @@
 // The TLV blocks of the user pages, from the first one on.
 ghost use Rattle.std.specs.Prelude.{◌≡◌, ◌≤◌, length, drop};
-ghost use Rattle.screen.specs.Blocks.{counted, longValue, value_of, walk, spanned, SpanFits, found, StopFits};
+ghost use Rattle.screen.specs.Blocks.{counted, long_value, value_of, walk, spanned, SpanFits, found, StopFits};
 
 use basics::{low_first, to_usize};
 
@@ -44,7 +44,7 @@ fn counted(area: &[u8], from: usize, n: usize) -> Span
 fn long_value(area: &[u8], at: usize) -> Span
     requires { at ≤ length area.now }
     ensures span_fits { SpanFits at area.now result }
-    ensures area_value { spanned result area.now ≡ longValue (drop at area.now) }
+    ensures area_value { spanned result area.now ≡ long_value (drop at area.now) }
 {
     if area.len() - at < 2 {
         return Span::Passes;

@@ -2,7 +2,7 @@
 ghost use Rattle.std.specs.Prelude.{◌≡◌};
 ghost use Rattle.image.specs.Layout.{Fits};
 ghost use Rattle.screen.specs.Blocks.{walk as Blocks·walk};
-ghost use Rattle.screen.specs.Screen.{refused, readingSeen, foundSeen, userBytes, seen, answer_of};
+ghost use Rattle.screen.specs.Screen.{refused, reading_seen, found_seen, user_bytes, seen, answer_of};
 
 use crate::blocks::{Stop, walk};
 use crate::reading::{is_reading, number_at, verdict_at, verdict_number};
@@ -44,7 +44,7 @@ fn refusal(k: u8) -> ScreenAnswer
 
 // What is to be shown of a message.
 fn message_seen(message: &[u8], present: u32) -> ScreenAnswer
-    ensures { result ≡ answer_of (readingSeen message.now present) }
+    ensures { result ≡ answer_of (reading_seen message.now present) }
 {
     if !is_reading(message) {
         return refusal(NO_READING);
@@ -62,7 +62,7 @@ fn message_seen(message: &[u8], present: u32) -> ScreenAnswer
 
 // What is to be shown of the bytes of the user pages.
 fn area_seen(area: &[u8], present: u32) -> ScreenAnswer
-    ensures { result ≡ answer_of (foundSeen (Blocks·walk area.now) present) }
+    ensures { result ≡ answer_of (found_seen (Blocks·walk area.now) present) }
 {
     let stop = walk(area);
     match stop {
@@ -75,7 +75,7 @@ fn area_seen(area: &[u8], present: u32) -> ScreenAnswer
 // What is to be shown of an image of n pages. Its user pages end where the lock page begins.
 fn pages_seen(image: &[u8], n: usize, present: u32) -> ScreenAnswer
     requires { Fits n image.now }
-    ensures { result ≡ answer_of (foundSeen (Blocks·walk (userBytes n image.now)) present) }
+    ensures { result ≡ answer_of (found_seen (Blocks·walk (user_bytes n image.now)) present) }
 {
     let end = 4 * (n - 5);
     area_seen(&image[FIRST_USER_BYTE..end], present)

@@ -1,7 +1,7 @@
 // A reading, and what its age makes of it.
 ghost use Rattle.std.specs.Prelude.{◌≡◌, ◌+◌, ◌≤◌, length};
-ghost use Rattle.image.specs.Layout.{fourAt};
-ghost use Rattle.screen.specs.Reading.{isReading, lowFirstFour, verdictAt, verdictNumber};
+ghost use Rattle.image.specs.Layout.{four_at};
+ghost use Rattle.screen.specs.Reading.{is_reading, low_first_four, verdict_at, verdict_number};
 
 use basics::to_u32;
 use image::layout::{Four, four_at};
@@ -18,7 +18,7 @@ pub enum Verdict {
 
 // Whether a message is a reading: D5 00 08, and eight bytes.
 pub fn is_reading(message: &[u8]) -> bool
-    ensures { result ≡ isReading message.now }
+    ensures { result ≡ is_reading message.now }
 {
     if message.len() != 11 {
         return false;
@@ -34,7 +34,7 @@ pub fn is_reading(message: &[u8]) -> bool
 
 // Four bytes as one number, the low one first.
 fn low_first_four(v: Four) -> u32
-    ensures { result ≡ lowFirstFour v }
+    ensures { result ≡ low_first_four v }
 {
     to_u32(v.b0) + 256 * (to_u32(v.b1) + 256 * (to_u32(v.b2) + 256 * to_u32(v.b3)))
 }
@@ -42,7 +42,7 @@ fn low_first_four(v: Four) -> u32
 // The number in the four bytes from `at` on.
 pub fn number_at(message: &[u8], at: usize) -> u32
     requires { (at ≤ 924) × (at + 4 ≤ length message.now) }
-    ensures { result ≡ lowFirstFour (fourAt message.now at) }
+    ensures { result ≡ low_first_four (four_at message.now at) }
 {
     let four = four_at(message, at);
     low_first_four(four)
@@ -50,7 +50,7 @@ pub fn number_at(message: &[u8], at: usize) -> u32
 
 // What a reading of a second is at the present one.
 pub fn verdict_at(present: u32, second: u32) -> Verdict
-    ensures { result ≡ verdictAt present second }
+    ensures { result ≡ verdict_at present second }
 {
     if present < second {
         return Verdict::Ahead;
@@ -63,7 +63,7 @@ pub fn verdict_at(present: u32, second: u32) -> Verdict
 
 // Its number.
 pub fn verdict_number(verdict: Verdict) -> u8
-    ensures { result ≡ verdictNumber verdict }
+    ensures { result ≡ verdict_number verdict }
 {
     match verdict {
         Verdict::Live => 1,

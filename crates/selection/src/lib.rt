@@ -1,7 +1,7 @@
 // IDLE, HALT, READY1 and READY2: a tag is woken and selected.
 ghost use Rattle.std.specs.Prelude.{◌≡◌, true, List, ℕ, ◌+◌, ◌*◌, ◌/◌, ◌%◌, ◌^◌, ◌≤◌, ◌<◌, length, get_or};
-ghost use Rattle.tag.specs.Outcome.{answerRoom, Did};
-ghost use Rattle.selection.specs.Selection.{wakes, inIdle, inHalt, forty, own1, own2, sent, asks, known, anticollision, select, inReady, inReady1, inReady2};
+ghost use Rattle.tag.specs.Outcome.{answer_room, Did};
+ghost use Rattle.selection.specs.Selection.{wakes, in_idle, in_halt, forty, own1, own2, sent, asks, known, anticollision, select, in_ready, in_ready1, in_ready2};
 
 use basics::to_u64;
 use tag::outcome::{Step, lay, lost, plain, says, silent};
@@ -16,7 +16,7 @@ fn arg(frame: &[u8], i: usize) -> u8
 
 // The answer to REQA and WUPA.
 fn wake(answer: &mut [u8], tag: Tag) -> Step
-    requires { answerRoom ≤ length answer.old }
+    requires { answer_room ≤ length answer.old }
     ensures { (img : List ℕ) → Did (wakes tag) result img img answer.old answer.new }
 {
     let state = tag.state;
@@ -25,8 +25,8 @@ fn wake(answer: &mut [u8], tag: Tag) -> Step
 
 // A frame in IDLE.
 pub fn idle(answer: &mut [u8], tag: Tag, frame: &[u8], bits: usize) -> Step
-    requires { answerRoom ≤ length answer.old }
-    ensures { (img : List ℕ) → Did (inIdle tag frame.now bits) result img img answer.old answer.new }
+    requires { answer_room ≤ length answer.old }
+    ensures { (img : List ℕ) → Did (in_idle tag frame.now bits) result img img answer.old answer.new }
 {
     if bits == 7 {
         let code = arg(frame, 0);
@@ -41,8 +41,8 @@ pub fn idle(answer: &mut [u8], tag: Tag, frame: &[u8], bits: usize) -> Step
 
 // A frame in HALT.
 pub fn halt(answer: &mut [u8], tag: Tag, frame: &[u8], bits: usize) -> Step
-    requires { answerRoom ≤ length answer.old }
-    ensures { (img : List ℕ) → Did (inHalt tag frame.now bits) result img img answer.old answer.new }
+    requires { answer_room ≤ length answer.old }
+    ensures { (img : List ℕ) → Did (in_halt tag frame.now bits) result img img answer.old answer.new }
 {
     if bits == 7 {
         let code = arg(frame, 0);
@@ -135,7 +135,7 @@ fn power(n: usize) -> u64
 }
 
 fn anticollision(answer: &mut [u8], tag: Tag, frame: &[u8], bits: usize, n: usize, own: u64) -> Step
-    requires { (answerRoom ≤ length answer.old) × (n ≡ known (get_or frame.now 1 0)) × (n ≤ 39) × (own < 2 ^ 40) }
+    requires { (answer_room ≤ length answer.old) × (n ≡ known (get_or frame.now 1 0)) × (n ≤ 39) × (own < 2 ^ 40) }
     ensures { (img : List ℕ) → Did (anticollision tag frame.now bits own) result img img answer.old answer.new }
 {
     if bits == 16 + n {
@@ -150,7 +150,7 @@ fn anticollision(answer: &mut [u8], tag: Tag, frame: &[u8], bits: usize, n: usiz
 }
 
 fn select(answer: &mut [u8], tag: Tag, frame: &[u8], bits: usize, own: u64, sak: u8) -> Step
-    requires { (answerRoom ≤ length answer.old) × (length frame.now ≡ (bits + 7) / 8) }
+    requires { (answer_room ≤ length answer.old) × (length frame.now ≡ (bits + 7) / 8) }
     ensures { (img : List ℕ) → Did (select tag frame.now bits own sak) result img img answer.old answer.new }
 {
     if bits != 72 {
@@ -180,8 +180,8 @@ fn ready(
     own: u64,
     sak: u8,
 ) -> Step
-    requires { (answerRoom ≤ length answer.old) × (own < 2 ^ 40) × (length frame.now ≡ (bits + 7) / 8) }
-    ensures { (img : List ℕ) → Did (inReady tag frame.now bits parity code own sak) result img img answer.old answer.new }
+    requires { (answer_room ≤ length answer.old) × (own < 2 ^ 40) × (length frame.now ≡ (bits + 7) / 8) }
+    ensures { (img : List ℕ) → Did (in_ready tag frame.now bits parity code own sak) result img img answer.old answer.new }
 {
     if parity {
         if arg(frame, 0) != code {
@@ -210,8 +210,8 @@ pub fn ready1(
     bits: usize,
     parity: bool,
 ) -> Step
-    requires { (8 ≤ length image.now) × (answerRoom ≤ length answer.old) × (length frame.now ≡ (bits + 7) / 8) }
-    ensures { (img : List ℕ) → Did (inReady1 image.now tag frame.now bits parity) result img img answer.old answer.new }
+    requires { (8 ≤ length image.now) × (answer_room ≤ length answer.old) × (length frame.now ≡ (bits + 7) / 8) }
+    ensures { (img : List ℕ) → Did (in_ready1 image.now tag frame.now bits parity) result img img answer.old answer.new }
 {
     ready(answer, tag, frame, bits, parity, 0x93, own1(image), 0x04)
 }
@@ -225,8 +225,8 @@ pub fn ready2(
     bits: usize,
     parity: bool,
 ) -> Step
-    requires { (8 ≤ length image.now) × (answerRoom ≤ length answer.old) × (length frame.now ≡ (bits + 7) / 8) }
-    ensures { (img : List ℕ) → Did (inReady2 image.now tag frame.now bits parity) result img img answer.old answer.new }
+    requires { (8 ≤ length image.now) × (answer_room ≤ length answer.old) × (length frame.now ≡ (bits + 7) / 8) }
+    ensures { (img : List ℕ) → Did (in_ready2 image.now tag frame.now bits parity) result img img answer.old answer.new }
 {
     ready(answer, tag, frame, bits, parity, 0x95, own2(image), 0x00)
 }

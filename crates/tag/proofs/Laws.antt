@@ -7,24 +7,24 @@ use native.Mathlib.Numerals.{add-one}
 use native.Mathlib.Omega.{arith}
 use lib.ListN.{length, take, drop, set, length-append}
 use lib.Seq.{take-length, sets, sets-eq, set_split, take_at, drop-drop, drop-append-add, length-take-le}
-use Rattle.image.proofs.Stored.{length-store}
-use Rattle.crc_a.specs.CrcA.{crcA, sent, withCrc}
-use Rattle.tag.specs.State.{moved, backToWait}
-use Rattle.tag.specs.Outcome.{build, byte_of, low_bytes, Reply, plain, silence, nibble, bytes, bits_of, answer_of, over, Effect, keep, put, apply, does, Did, lost, ack, nakAfter, nak, says, Acks, Says}
+use Rattle.image.proofs.Stored.{length_store}
+use Rattle.crc_a.specs.CrcA.{crc_a, sent, with_crc}
+use Rattle.tag.specs.State.{moved, back_to_wait}
+use Rattle.tag.specs.Outcome.{build, byte_of, low_bytes, Reply, plain, silence, nibble, bytes, bits_of, answer_of, over, Effect, keep, put, apply, does, Did, lost, ack, nak_after, nak, says, Acks, Says}
 use Rattle.tag.specs.declared.state.State.{State}
 use Rattle.tag.specs.declared.state.Tag.{Tag}
 use Rattle.tag.specs.declared.outcome.Step.{Step}
 
 -- ---- laid over
 
-pub take-over : (a b : List ℕ) (n : ℕ) → length a ≡ n → take n (over a b) ≡ a
+pub take_over : (a b : List ℕ) (n : ℕ) → length a ≡ n → take n (over a b) ≡ a
 unfolding over
-take-over a b n e = take_at a (drop (length a) b) n e
+take_over a b n e = take_at a (drop (length a) b) n e
 
 -- a longer answer that goes over a shorter one
-pub over-over : (a b c : List ℕ) → over (a ++ c) (over a b) ≡ over (a ++ c) b
+pub over_over : (a b c : List ℕ) → over (a ++ c) (over a b) ≡ over (a ++ c) b
 unfolding over
-over-over a b c =
+over_over a b c =
     ap (λ (t : List ℕ). (a ++ c) ++ t) (
     rw (length-append a c) (drop-append-add a (drop (length a) b) (length c) ∙ drop-drop (length c) (length a) b)
     )
@@ -36,38 +36,38 @@ lay_done bs d answer e = rw (take-length bs) at e
 
 -- ---- a list that is built into the front of a buffer
 
-pub length-build : (f : ℕ → ℕ) (k : ℕ) → length (build f k) ≡ k
-length-build f zero = refl
-length-build f (suc k) = ap suc (length-build (λ i. f (suc i)) k)
+pub length_build : (f : ℕ → ℕ) (k : ℕ) → length (build f k) ≡ k
+length_build f zero = refl
+length_build f (suc k) = ap suc (length_build (λ i. f (suc i)) k)
 
 -- k of them laid over d
 abbrev pub laid : (ℕ → ℕ) → ℕ → List ℕ → List ℕ
 laid f k d = build f k ++ drop k d
 
-pub laid-suc : (f : ℕ → ℕ) (k : ℕ) (d : List ℕ) → k < length d → set (laid f k d) k (f k) ≡ laid f (suc k) d
-laid-suc f k [] l = absurd (not-suc-le-zero l)
-laid-suc f zero (x ∷ d) l = refl
-laid-suc f (suc k) (x ∷ d) l = ap (λ (t : List ℕ). f zero ∷ t) (laid-suc (λ i. f (suc i)) k d (le_of_suc-le-suc l))
+pub laid_suc : (f : ℕ → ℕ) (k : ℕ) (d : List ℕ) → k < length d → set (laid f k d) k (f k) ≡ laid f (suc k) d
+laid_suc f k [] l = absurd (not-suc-le-zero l)
+laid_suc f zero (x ∷ d) l = refl
+laid_suc f (suc k) (x ∷ d) l = ap (λ (t : List ℕ). f zero ∷ t) (laid_suc (λ i. f (suc i)) k d (le_of_suc-le-suc l))
 
 pub laid_end : (f : ℕ → ℕ) (i k : ℕ) (answer d : List ℕ) → i ≤ k → k ≤ i → answer ≡ laid f i d → answer ≡ over (build f k) d
 unfolding over
-laid_end f i k answer d l m e = let q : i ≡ k = omega arith in rw (length-build f k) (e ∙ ap (λ (j : ℕ). laid f j d) q)
+laid_end f i k answer d l m e = let q : i ≡ k = omega arith in rw (length_build f k) (e ∙ ap (λ (j : ℕ). laid f j d) q)
 
 -- a number's bytes, one by one
-pub byte-turn : (v rest i count : ℕ) (answer d : List ℕ) → i < count → (count ≤ 8) × (count ≤ length d) → rest ≡ v / 256 ^ i → answer ≡ laid (byte_of v) i d
+pub byte_turn : (v rest i count : ℕ) (answer d : List ℕ) → i < count → (count ≤ 8) × (count ≤ length d) → rest ≡ v / 256 ^ i → answer ≡ laid (byte_of v) i d
     → set answer i (rest % 256) ≡ laid (byte_of v) (i + 1) d
 unfolding byte_of
-byte-turn v rest i count answer d l m e f = rw (f, e, add-one) (laid-suc (byte_of v) i d (omega arith))
+byte_turn v rest i count answer d l m e f = rw (f, e, add-one) (laid_suc (byte_of v) i d (omega arith))
 
 pub byte_next : (v rest i : ℕ) → rest ≡ v / 256 ^ i → rest / 256 ≡ v / 256 ^ (i + 1)
 byte_next v rest i e = rw (e, add-one, pow-suc) (div-div-eq-div-mul v (256 ^ i) 256)
 
 -- ---- effects
 
-pub length-apply : (img : List ℕ) (e : Effect) → length (apply img e) ≡ length img
+pub length_apply : (img : List ℕ) (e : Effect) → length (apply img e) ≡ length img
 unfolding apply
-length-apply img keep = refl
-length-apply img (put p v) = length-store img p v
+length_apply img keep = refl
+length_apply img (put p v) = length_store img p v
 
 -- ---- silence and nibbles
 
@@ -79,29 +79,29 @@ Silent t r = (img before : List ℕ) → Did (does silence keep t) r img img bef
 abbrev pub Naks : Tag → ℕ → Step → List ℕ → List ℕ → Type 0
 Naks t v r before after = (img : List ℕ) → Did (nak t v) r img img before after
 
-pub silent-done : (t : Tag) → Silent t (record { bits = 0; tag = t })
+pub silent_done : (t : Tag) → Silent t (record { bits = 0; tag = t })
 unfolding apply bits_of answer_of over
-silent-done t img before = record { image = refl; bits = refl; tag = refl; answer = refl }
+silent_done t img before = record { image = refl; bits = refl; tag = refl; answer = refl }
 
-pub lost-done : (t t' : Tag) (s : State) (r : Step) → s ≡ backToWait t.state → t' ≡ moved t s → Silent t' r → (img before : List ℕ) → Did (lost t) r img img before before
+pub lost_done : (t t' : Tag) (s : State) (r : Step) → s ≡ back_to_wait t.state → t' ≡ moved t s → Silent t' r → (img before : List ℕ) → Did (lost t) r img img before before
 unfolding lost
-lost-done t t' s r e f h img before = rw (← e, ← f) (h img before)
+lost_done t t' s r e f h img before = rw (← e, ← f) (h img before)
 
-pub ack-done : (t : Tag) (before : List ℕ) → 1 ≤ length before → Acks t (record { bits = 4; tag = t }) before (set before 0 0xA)
+pub ack_done : (t : Tag) (before : List ℕ) → 1 ≤ length before → Acks t (record { bits = 4; tag = t }) before (set before 0 0xA)
 unfolding ack bits_of answer_of over
-ack-done t before l img e = record { image = refl; bits = refl; tag = refl; answer = set_split before 0 0xA l }
+ack_done t before l img e = record { image = refl; bits = refl; tag = refl; answer = set_split before 0 0xA l }
 
-pub nak-done : (t t' : Tag) (s : State) (v : ℕ) (before : List ℕ) → s ≡ backToWait t.state → t' ≡ moved t s → (1 ≤ length before) × (v < 16)
+pub nak_done : (t t' : Tag) (s : State) (v : ℕ) (before : List ℕ) → s ≡ back_to_wait t.state → t' ≡ moved t s → (1 ≤ length before) × (v < 16)
     → Naks t v (record { bits = 4; tag = t' }) before (set before 0 v)
-unfolding nakAfter apply bits_of answer_of over
-nak-done t t' s v before e f l img =
+unfolding nak_after apply bits_of answer_of over
+nak_done t t' s v before e f l img =
     record { image = refl; bits = refl; tag = f ∙ rw e; answer = (let q : v % 16 ≡ v = omega arith in rw q (set_split before 0 v l.0)) }
 
 -- a NAK after an effect on the image
-pub nak-after : (e : Effect) (t : Tag) (v : ℕ) (r : Step) (img image' before after : List ℕ) → Naks t v r before after → image' ≡ apply img e
-    → Did (nakAfter e t v) r img image' before after
-unfolding nakAfter
-nak-after e t v r img image' before after h i = let d = h img in record { image = i; bits = d.bits; tag = d.tag; answer = d.answer }
+pub nak_after_lem : (e : Effect) (t : Tag) (v : ℕ) (r : Step) (img image' before after : List ℕ) → Naks t v r before after → image' ≡ apply img e
+    → Did (nak_after e t v) r img image' before after
+unfolding nak_after
+nak_after_lem e t v r img image' before after h i = let d = h img in record { image = i; bits = d.bits; tag = d.tag; answer = d.answer }
 
 -- ---- bits of a number
 
@@ -112,39 +112,39 @@ plain_done t k v before after l e img = record { image = refl; bits = refl; tag 
 
 -- ---- bytes, with their CRC_A behind them
 
-pub length-with-crc : (bs : List ℕ) → length (withCrc bs) ≡ length bs + 2
-unfolding withCrc sent
-length-with-crc bs = length-append bs _
+pub length_with_crc : (bs : List ℕ) → length (with_crc bs) ≡ length bs + 2
+unfolding with_crc sent
+length_with_crc bs = length-append bs _
 
 -- an answer takes as many bytes as its bits, rounded up
-pub answer-bytes : (o : Reply) → length (answer_of o) ≡ (bits_of o + 7) / 8
+pub answer_bytes : (o : Reply) → length (answer_of o) ≡ (bits_of o + 7) / 8
 unfolding bits_of answer_of low_bytes
-answer-bytes silence = refl
-answer-bytes (nibble v) = refl
-answer-bytes (bytes bs) = omega (arith, length-with-crc bs)
-answer-bytes (plain k v) = length-build _ _
+answer_bytes silence = refl
+answer_bytes (nibble v) = refl
+answer_bytes (bytes bs) = omega (arith, length_with_crc bs)
+answer_bytes (plain k v) = length_build _ _
 
 -- the CRC_A was stored behind the first n bytes
-pub crc-behind : (buffer after : List ℕ) (n : ℕ) → (n + 2 ≤ length buffer) × (n ≤ 1022) → after ≡ sets buffer n (sent (crcA (take n buffer)))
-    → after ≡ over (withCrc (take n buffer)) buffer
-unfolding withCrc sent over
-crc-behind buffer after n l e =
-    let c = crcA (take n buffer) in
+pub crc_behind : (buffer after : List ℕ) (n : ℕ) → (n + 2 ≤ length buffer) × (n ≤ 1022) → after ≡ sets buffer n (sent (crc_a (take n buffer)))
+    → after ≡ over (with_crc (take n buffer)) buffer
+unfolding with_crc sent over
+crc_behind buffer after n l e =
+    let c = crc_a (take n buffer) in
     let whole : length (take n buffer ++ (c % 256 ∷ c / 256 ∷ [])) ≡ n + 2 =
     length-append (take n buffer) (c % 256 ∷ c / 256 ∷ []) ∙ ap (λ (k : ℕ). k + 2) (length-take-le n buffer (omega arith)) in
     rw whole (e ∙ sets-eq (c % 256 ∷ c / 256 ∷ []) buffer n l.0)
 
-pub says-done : (t : Tag) (buffer after : List ℕ) (n : ℕ) → (n + 2 ≤ length buffer) × (n ≤ 1022) → after ≡ sets buffer n (sent (crcA (take n buffer)))
+pub says_done : (t : Tag) (buffer after : List ℕ) (n : ℕ) → (n + 2 ≤ length buffer) × (n ≤ 1022) → after ≡ sets buffer n (sent (crc_a (take n buffer)))
     → Says n t (record { bits = 8 * (n + 2); tag = t }) buffer after
-says-done t buffer after n l e = record { bits = refl; tag = refl; answer = crc-behind buffer after n l e }
+says_done t buffer after n l e = record { bits = refl; tag = refl; answer = crc_behind buffer after n l e }
 
 -- data: bytes were laid over the buffer, their CRC_A was stored behind them, and the image is what the effect makes of it
 pub said : (bs : List ℕ) (e : Effect) (t : Tag) (r : Step) (n : ℕ) (img image' before mid after : List ℕ) → length bs ≡ n → mid ≡ over bs before
     → Says n t r mid after → image' ≡ apply img e → Did (says bs e t) r img image' before after
-unfolding says bits_of answer_of withCrc
+unfolding says bits_of answer_of with_crc
 said bs e t r n img image' before mid after l em s ei = record {
   image = ei;
   bits = s.bits ∙ rw l;
   tag = s.tag;
-  answer = s.answer ∙ rw (em, take-over bs before n l) (over-over bs before (sent (crcA bs)));
+  answer = s.answer ∙ rw (em, take_over bs before n l) (over_over bs before (sent (crc_a bs)));
 }

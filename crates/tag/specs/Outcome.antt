@@ -1,11 +1,11 @@
 -- What comes out of a frame is one value: a reply, an effect on the image, and the tag that is left. Assumes nothing.
 use Rattle.std.specs.Prelude.{◌≡◌, List, [], ◌∷◌, ◌++◌, ℕ, zero, suc, ◌+◌, ◌*◌, ◌/◌, ◌%◌, ◌^◌, ◌≤◌, length, take, drop, get_or}
-use Rattle.crc_a.specs.CrcA.{withCrc}
+use Rattle.crc_a.specs.CrcA.{with_crc}
 use Rattle.image.specs.declared.layout.Four.{Four}
 use Rattle.image.specs.Layout.{Fits, store}
 use Rattle.tag.specs.declared.state.Tag.{Tag}
 use Rattle.tag.specs.declared.outcome.Step.{Step}
-use Rattle.tag.specs.State.{moved, backToWait}
+use Rattle.tag.specs.State.{moved, back_to_wait}
 
 -- byte i of a frame, zero behind its end
 abbrev pub arg : List ℕ → ℕ → ℕ
@@ -41,7 +41,7 @@ low_bytes k v = build (byte_of v) k
 unfoldable pub answer_of : Reply → List ℕ
 answer_of silence = []
 answer_of (nibble v) = v % 16 ∷ []
-answer_of (bytes bs) = withCrc bs
+answer_of (bytes bs) = with_crc bs
 answer_of (plain k v) = low_bytes ((k + 7) / 8) (v % 2 ^ k)
 
 -- "buffer bytes past it keep their contents"
@@ -67,18 +67,18 @@ does r e t = record { reply = r; effect = e; tag = t }
 
 -- "silence, wait state"
 unfoldable pub lost : Tag → Does
-lost t = does silence keep (moved t (backToWait t.state))
+lost t = does silence keep (moved t (back_to_wait t.state))
 
 -- "ACK (Ah)"
 unfoldable pub ack : Effect → Tag → Does
 ack e t = does (nibble 0xA) e t
 
 -- "Every NAK goes to the wait state."
-unfoldable pub nakAfter : Effect → Tag → ℕ → Does
-nakAfter e t v = does (nibble v) e (moved t (backToWait t.state))
+unfoldable pub nak_after : Effect → Tag → ℕ → Does
+nak_after e t v = does (nibble v) e (moved t (back_to_wait t.state))
 
 abbrev pub nak : Tag → ℕ → Does
-nak t v = nakAfter keep t v
+nak t v = nak_after keep t v
 
 -- data: "after all data answers in ACTIVE" comes their CRC_A
 unfoldable pub says : List ℕ → Effect → Tag → Does
@@ -92,13 +92,13 @@ pub record Did (o : Does) (r : Step) (img image' before after : List ℕ) : Type
   pub answer : after ≡ over (answer_of o.reply) before
 
 -- "2: frame call: answer buffer under 1,024 bytes"
-abbrev pub answerRoom : ℕ
-answerRoom = 1024
+abbrev pub answer_room : ℕ
+answer_room = 1024
 
 -- an image of n pages, and an answer buffer that isn't refused
 pub record Room (n : ℕ) (img answer : List ℕ) : Type 0 where
   pub fit : Fits n img
-  pub room : answerRoom ≤ length answer
+  pub room : answer_room ≤ length answer
 
 -- ---- what the builders of answers promise, whatever was done to the image
 
@@ -109,4 +109,4 @@ Acks t r before after = (img : List ℕ) (e : Effect) → Did (ack e t) r img (a
 pub record Says (n : ℕ) (t : Tag) (r : Step) (before after : List ℕ) : Type 0 where
   pub bits : r.bits ≡ 8 * (n + 2)
   pub tag : r.tag ≡ t
-  pub answer : after ≡ over (withCrc (take n before)) before
+  pub answer : after ≡ over (with_crc (take n before)) before

@@ -7,11 +7,11 @@ use Rattle.tag.specs.declared.state.State.TheVariants.{Idle, Halt, Ready1, Ready
 use Rattle.tag.specs.declared.state.Tag.{Tag}
 
 -- "Field loss gives IDLE, not authenticated, no read answered in this field; \"field off\" is that record."
-unfoldable pub fieldOff : Tag
-fieldOff = record { state = Idle; answered = false }
+unfoldable pub field_off : Tag
+field_off = record { state = Idle; answered = false }
 
-abbrev pub fieldLost : Tag → Tag
-fieldLost t = fieldOff
+abbrev pub field_lost : Tag → Tag
+field_lost t = field_off
 
 -- the same tag in another state
 unfoldable pub moved : Tag → State → Tag
@@ -25,16 +25,16 @@ woken (Ready1 w) = Ready1 w
 woken (Ready2 w) = Ready2 w
 woken (Active w a) = Active w a
 
-abbrev pub waitState : Wait → State
-waitState ToIdle = Idle
-waitState ToHalt = Halt
+abbrev pub wait_state : Wait → State
+wait_state ToIdle = Idle
+wait_state ToHalt = Halt
 
-abbrev pub backToWait : State → State
-backToWait Idle = Idle
-backToWait Halt = Halt
-backToWait (Ready1 w) = waitState w
-backToWait (Ready2 w) = waitState w
-backToWait (Active w a) = waitState w
+abbrev pub back_to_wait : State → State
+back_to_wait Idle = Idle
+back_to_wait Halt = Halt
+back_to_wait (Ready1 w) = wait_state w
+back_to_wait (Ready2 w) = wait_state w
+back_to_wait (Active w a) = wait_state w
 
 -- "04h (to READY2) or 00h (to ACTIVE)"; "ACTIVE is entered unauthenticated."
 abbrev pub selected : State → State
@@ -66,15 +66,15 @@ granted (Ready2 w) = Ready2 w
 granted (Active w a) = Active w true
 
 -- "Leaving ACTIVE ends authentication": no other state has one
-abbrev pub authenticatedIn : State → Bool
-authenticatedIn Idle = false
-authenticatedIn Halt = false
-authenticatedIn (Ready1 w) = false
-authenticatedIn (Ready2 w) = false
-authenticatedIn (Active w a) = a
+abbrev pub authenticated_in : State → Bool
+authenticated_in Idle = false
+authenticated_in Halt = false
+authenticated_in (Ready1 w) = false
+authenticated_in (Ready2 w) = false
+authenticated_in (Active w a) = a
 
 abbrev pub authenticated : Tag → Bool
-authenticated t = authenticatedIn t.state
+authenticated t = authenticated_in t.state
 
 -- a READ or FAST_READ was answered with data
 unfoldable pub answering : Tag → Tag

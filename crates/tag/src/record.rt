@@ -1,6 +1,6 @@
 // The record that a board keeps between two calls: numbers, and what they mean.
 ghost use Rattle.std.specs.Prelude.{◌≡◌};
-ghost use Rattle.tag.specs.Record.{waitOf, state_of, meant, tag_of, flagOf, waitNumber, recordOf};
+ghost use Rattle.tag.specs.Record.{wait_of, state_of, meant, tag_of, flag_of, wait_number, record_of};
 
 use crate::state::{State, Tag, Wait};
 
@@ -19,7 +19,7 @@ pub struct TagRecord {
 }
 
 fn wait_of(number: u8) -> Wait
-    ensures { result ≡ waitOf number }
+    ensures { result ≡ wait_of number }
 {
     match number {
         0 => Wait::ToIdle,
@@ -68,13 +68,13 @@ pub fn tag_of(rec: TagRecord) -> Tag
 }
 
 fn flag(b: bool) -> u8
-    ensures { result ≡ flagOf b }
+    ensures { result ≡ flag_of b }
 {
     if b { 1 } else { 0 }
 }
 
 fn wait_number(wait: Wait) -> u8
-    ensures { result ≡ waitNumber wait }
+    ensures { result ≡ wait_number wait }
 {
     match wait {
         Wait::ToIdle => 0,
@@ -95,7 +95,7 @@ fn numbers(state: u8, wait: u8, authenticated: u8, answered: u8) -> TagRecord
 
 // The record of a tag.
 pub fn record_of(tag: Tag) -> TagRecord
-    ensures { result ≡ recordOf tag }
+    ensures { result ≡ record_of tag }
 {
     let answered = flag(tag.answered);
     let state = tag.state;

@@ -1,6 +1,6 @@
 // The tag's radio state, and its moves.
 ghost use Rattle.std.specs.Prelude.{◌≡◌};
-ghost use Rattle.tag.specs.State.{fieldOff, fieldLost, moved, woken, waitState, backToWait, selected, activated, halted, granted, authenticated, answering};
+ghost use Rattle.tag.specs.State.{field_off, field_lost, moved, woken, wait_state, back_to_wait, selected, activated, halted, granted, authenticated, answering};
 
 // The state to go back to.
 #[derive(Drop)]
@@ -20,7 +20,7 @@ pub enum State {
 }
 
 fn wait_state(wait: Wait) -> State
-    ensures { result ≡ waitState wait }
+    ensures { result ≡ wait_state wait }
 {
     match wait {
         Wait::ToIdle => State::Idle,
@@ -74,7 +74,7 @@ impl State {
     }
 
     pub fn back_to_wait(self) -> State
-        ensures { result ≡ backToWait self }
+        ensures { result ≡ back_to_wait self }
     {
         match self {
             State::Idle => State::Idle,
@@ -108,7 +108,7 @@ pub struct Tag {
 
 impl Tag {
     pub fn field_off() -> Tag
-        ensures { result ≡ fieldOff }
+        ensures { result ≡ field_off }
     {
         Tag {
             state: State::Idle,
@@ -118,7 +118,7 @@ impl Tag {
 
     // "Field loss gives IDLE, not authenticated, no read answered in this field"
     pub fn field_lost(self) -> Tag
-        ensures { result ≡ fieldLost self }
+        ensures { result ≡ field_lost self }
     {
         Tag::field_off()
     }

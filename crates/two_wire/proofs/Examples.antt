@@ -4,23 +4,23 @@ use Rattle.image.specs.Layout.{size_of}
 use Rattle.image.specs.declared.layout.Size.TheVariants.{Pages}
 use Rattle.image.proofs.Laws.{fits}
 use Rattle.two_wire.specs.Span.{within, stores, following}
-use Rattle.two_wire.specs.Region.{Lent, both, regionOf, byte_at}
-use Rattle.two_wire.specs.Record.{phaseOf, holding, entered, oneMore, gathers, atRest}
-use Rattle.two_wire.specs.Gathered.{landedAt, landedTo, landed, counterAfter}
-use Rattle.two_wire.specs.Event.{after, device, addressed, sent, stopped, byEvent, byMemory, by_size, does}
-use Rattle.two_wire.specs.Run.{gathersAll, Wires, answerTo, afterEvent, afterBytes, afterReadCode, afterReads, answersTo}
+use Rattle.two_wire.specs.Region.{Lent, both, region_of, byte_at}
+use Rattle.two_wire.specs.Record.{phase_of, holding, entered, one_more, gathers, at_rest}
+use Rattle.two_wire.specs.Gathered.{landed_at, landed_to, landed, counter_after}
+use Rattle.two_wire.specs.Event.{after, device, addressed, sent, stopped, by_event, by_memory, by_size, does}
+use Rattle.two_wire.specs.Run.{gathers_all, Wires, answer_to, after_event, after_bytes, after_read_code, after_reads, answers_to}
 use Rattle.two_wire.specs.Promises.{onward, Right}
 use Rattle.two_wire.specs.Examples.{blank, fresh, ReadsRound, WireExamples, MemoryExamples}
 use Rattle.two_wire.specs.declared.record.Phase.TheVariants.{Writing}
-use Rattle.two_wire.proofs.Outcome.{refused-event}
+use Rattle.two_wire.proofs.Outcome.{refused_event_lem}
 use Rattle.two_wire.proofs.ReadBack as wires
 
-pub the-examples : WireExamples
-unfolding size_of within stores regionOf phaseOf holding oneMore gathers landedAt landedTo landed counterAfter after device addressed sent stopped byEvent byMemory by_size does gathersAll answerTo afterEvent afterBytes
-the-examples = record {
-  rolls45 = λ a b c d mem e. ap (λ (x : Wires). x.lent) (wires.stopped-at 45 (both (blank 45) mem) refl e atRest 0x40 0x7E (a ∷ b ∷ c ∷ d ∷ []) refl);
-  rolls135 = λ a b c d mem e. ap (λ (x : Wires). x.lent) (wires.stopped-at 135 (both (blank 135) mem) refl e atRest 0x40 0x7E (a ∷ b ∷ c ∷ d ∷ []) refl);
-  rolls231 = λ a b c d mem e. ap (λ (x : Wires). x.lent) (wires.stopped-at 231 (both (blank 231) mem) refl e atRest 0x40 0x7E (a ∷ b ∷ c ∷ d ∷ []) refl);
+pub the_examples : WireExamples
+unfolding size_of within stores region_of phase_of holding one_more gathers landed_at landed_to landed counter_after after device addressed sent stopped by_event by_memory by_size does gathers_all answer_to after_event after_bytes
+the_examples = record {
+  rolls45 = λ a b c d mem e. ap (λ (x : Wires). x.lent) (wires.stopped_at 45 (both (blank 45) mem) refl e at_rest 0x40 0x7E (a ∷ b ∷ c ∷ d ∷ []) refl);
+  rolls135 = λ a b c d mem e. ap (λ (x : Wires). x.lent) (wires.stopped_at 135 (both (blank 135) mem) refl e at_rest 0x40 0x7E (a ∷ b ∷ c ∷ d ∷ []) refl);
+  rolls231 = λ a b c d mem e. ap (λ (x : Wires). x.lent) (wires.stopped_at 231 (both (blank 231) mem) refl e at_rest 0x40 0x7E (a ∷ b ∷ c ∷ d ∷ []) refl);
   inside = λ mem e. rw (e, e, e, e);
   outside = λ mem e. rw (e, e, e, e);
   dropped = λ b mem e. (wires.writes 45 (fresh 45 mem) 0x40 0x10 (b ∷ []) (record { size = refl; whole = e }) refl).dropped;
@@ -28,20 +28,20 @@ the-examples = record {
 
 module _ (n : ℕ) (size : size_of (length (blank n)) ≡ Pages n) where
   round : ReadsRound n
-  unfolding within following regionOf byte_at holding afterReads answersTo onward
+  unfolding within following region_of byte_at holding after_reads answers_to onward
   round mem e =
       let l : Lent = both (blank n) mem in
-      let from : Wires = record { lent = l; bus = entered atRest Writing 0x3FFF } in
+      let from : Wires = record { lent = l; bus = entered at_rest Writing 0x3FFF } in
       let right : Right n l = record { size = size; whole = e } in
-      ap (λ (x : Wires). answersTo (afterReadCode x) 3) (wires.begun n l size e atRest 0x3F 0xFF refl)
+      ap (λ (x : Wires). answers_to (after_read_code x) 3) (wires.begun n l size e at_rest 0x3F 0xFF refl)
       ∙ rw ((wires.reads n from 0 right refl).gives, (wires.reads n from 1 right refl).gives, (wires.reads n from 2 right refl).gives)
 
-  pub memory-examples : MemoryExamples n
-  unfolding size_of within stores regionOf phaseOf holding oneMore gathers landedAt landedTo landed after device addressed sent byEvent byMemory by_size does gathersAll answerTo afterEvent afterBytes
-  memory-examples = record {
-    rolls = λ a b c d mem e. ap (λ (x : Wires). x.lent) (wires.stopped-at n (both (blank n) mem) size e atRest 0x3F 0xFE (a ∷ b ∷ c ∷ d ∷ []) refl);
+  pub memory_examples : MemoryExamples n
+  unfolding size_of within stores region_of phase_of holding one_more gathers landed_at landed_to landed after device addressed sent by_event by_memory by_size does gathers_all answer_to after_event after_bytes
+  memory_examples = record {
+    rolls = λ a b c d mem e. ap (λ (x : Wires). x.lent) (wires.stopped_at n (both (blank n) mem) size e at_rest 0x3F 0xFE (a ∷ b ∷ c ∷ d ∷ []) refl);
     round = round;
     apart = (refl, refl);
     acknowledged = λ mem e. (rw (size, e, size, e, size, e, size, e), rw (size, e, size, e, size, e, size, e), rw (size, e, size, e, size, e, size, e, lt-ltb 0 (4 * n) (omega (arith, (fits n (blank n) size).least))));
-    order = λ r b. (refl, rw size, λ mem e. refused-event (both (blank n) mem) r 9 b n size e (omega arith));
+    order = λ r b. (refl, rw size, λ mem e. refused_event_lem (both (blank n) mem) r 9 b n size e (omega arith));
   }

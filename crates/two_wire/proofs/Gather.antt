@@ -2,19 +2,19 @@
 -- Assumes nothing.
 use Rattle.std.proofs.Common.{◌≡◌, ℕ, zero, suc, ◌+◌, ◌%◌, ◌<◌, ◌≤◌, min, ltb, ◌≢◌, List, [], ◌∷◌, length, get_or, refl, ap, ◌∙◌, arith, length-set, get_or-set_other, get_or-set_same, ltb-false, ltb-true}
 use Rattle.basics.proofs.Choice.{by}
-use Rattle.two_wire.specs.Record.{oneMore, gathers}
-use Rattle.two_wire.specs.Run.{gathersAll}
+use Rattle.two_wire.specs.Record.{one_more, gathers}
+use Rattle.two_wire.specs.Run.{gathers_all}
 use Rattle.two_wire.specs.declared.record.BusRecord.{BusRecord}
 
-pub counter-gathered : (bs : List ℕ) (r : BusRecord) → (gathersAll r bs).counter ≡ r.counter
-unfolding gathersAll gathers
-counter-gathered [] r = refl
-counter-gathered (b ∷ bs) r = counter-gathered bs (gathers r b)
+pub counter_gathered : (bs : List ℕ) (r : BusRecord) → (gathers_all r bs).counter ≡ r.counter
+unfolding gathers_all gathers
+counter_gathered [] r = refl
+counter_gathered (b ∷ bs) r = counter_gathered bs (gathers r b)
 
-pub phase-gathered : (bs : List ℕ) (r : BusRecord) → (gathersAll r bs).phase ≡ r.phase
-unfolding gathersAll gathers
-phase-gathered [] r = refl
-phase-gathered (b ∷ bs) r = phase-gathered bs (gathers r b)
+pub phase_gathered : (bs : List ℕ) (r : BusRecord) → (gathers_all r bs).phase ≡ r.phase
+unfolding gathers_all gathers
+phase_gathered [] r = refl
+phase_gathered (b ∷ bs) r = phase_gathered bs (gathers r b)
 
 -- ---- the count
 
@@ -24,34 +24,34 @@ pub record Counts (m h : ℕ) : Type 0 where
   pub next : h % 64 ≡ m % 64
 
 -- the next place is one further on
-more-place : (h : ℕ) → oneMore h % 64 ≡ (h + 1) % 64
-unfolding oneMore
-more-place h = by (λ (x : ℕ). x % 64 ≡ (h + 1) % 64) (ltb h 64) (λ _. refl) (λ _. omega arith)
+more_place : (h : ℕ) → one_more h % 64 ≡ (h + 1) % 64
+unfolding one_more
+more_place h = by (λ (x : ℕ). x % 64 ≡ (h + 1) % 64) (ltb h 64) (λ _. refl) (λ _. omega arith)
 
-counts-more : (m h : ℕ) → Counts m h → Counts (suc m) (oneMore h)
-unfolding oneMore
-counts-more m h c =
+counts_more : (m h : ℕ) → Counts m h → Counts (suc m) (one_more h)
+unfolding one_more
+counts_more m h c =
     by (Counts (suc m)) (ltb h 64)
     (λ e. let l = ltb-true h 64 e in record { places = omega arith; next = omega arith })
     (λ e. let l = ltb-false h 64 e in record { places = omega arith; next = omega arith })
 
-pub counts-gathered : (bs : List ℕ) (r : BusRecord) (m : ℕ) → Counts m r.held → Counts (m + length bs) (gathersAll r bs).held
-unfolding gathersAll gathers
-counts-gathered [] r m c = let e : m + 0 ≡ m = omega arith in rw e c
-counts-gathered (b ∷ bs) r m c =
+pub counts_gathered : (bs : List ℕ) (r : BusRecord) (m : ℕ) → Counts m r.held → Counts (m + length bs) (gathers_all r bs).held
+unfolding gathers_all gathers
+counts_gathered [] r m c = let e : m + 0 ≡ m = omega arith in rw e c
+counts_gathered (b ∷ bs) r m c =
     let e : m + suc (length bs) ≡ suc m + length bs = omega arith in
-    rw e (counts-gathered bs (gathers r b) (suc m) (counts-more m r.held c))
+    rw e (counts_gathered bs (gathers r b) (suc m) (counts_more m r.held c))
 
 -- ---- the places
 
 -- the place of the byte after i more
-further : (a h i : ℕ) → (a + oneMore h + i) % 64 ≡ (a + h + suc i) % 64
-further a h i = let more = more-place h in omega arith
+further : (a h i : ℕ) → (a + one_more h + i) % 64 ≡ (a + h + suc i) % 64
+further a h i = let more = more_place h in omega arith
 
 -- a place that none of them goes to
 untouched : (bs : List ℕ) (r : BusRecord) (q : ℕ) → ((i : ℕ) → i < length bs → q ≢ (r.counter + r.held + i) % 64)
-    → get_or (gathersAll r bs).bytes q 0 ≡ get_or r.bytes q 0
-unfolding gathersAll gathers
+    → get_or (gathers_all r bs).bytes q 0 ≡ get_or r.bytes q 0
+unfolding gathers_all gathers
 untouched [] r q h = refl
 untouched (b ∷ bs) r q h =
     untouched bs (gathers r b) q (λ i l e. h (suc i) (omega arith) (e ∙ further r.counter r.held i))
@@ -59,8 +59,8 @@ untouched (b ∷ bs) r q h =
 
 -- "latest for each place": byte i stands at its place if no more than 63 come after it
 pub touched : (bs : List ℕ) (r : BusRecord) (i : ℕ) → length r.bytes ≡ 64 → i < length bs → length bs ≤ i + 64
-    → get_or (gathersAll r bs).bytes ((r.counter + r.held + i) % 64) 0 ≡ get_or bs i 0
-unfolding gathersAll gathers
+    → get_or (gathers_all r bs).bytes ((r.counter + r.held + i) % 64) 0 ≡ get_or bs i 0
+unfolding gathers_all gathers
 touched [] r i w l k = absurd (omega arith)
 touched (b ∷ bs) r zero w l k =
     let e : (r.counter + r.held + 0) % 64 ≡ (r.counter + r.held) % 64 = ap (λ (x : ℕ). x % 64) (omega arith) in

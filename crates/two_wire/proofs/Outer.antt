@@ -76,13 +76,13 @@ module _ {n : ℕ} where
   handed [] ks = tt
   handed (s ∷ ss) ks = (record { fit = λ κs x f. Unit {0}; has = λ κs x f vs. left ((s.row κs).exit ks.0) x f }, handed ss ks.1)
 
-  abbrev pub handed-fit : (κs : Lfts n) (ss : List (Slot n)) (ks : Kepts ss) (a : Denots (types_at ss κs)) (ws : Fins κs ss ks a) → fits_of κs ss ks (handed ss ks) a ws
-  handed-fit κs [] ks a ws = tt
-  handed-fit κs (s ∷ ss) ks a ws = (tt, handed-fit κs ss ks.1 a.1 ws.1)
+  abbrev pub handed_fit : (κs : Lfts n) (ss : List (Slot n)) (ks : Kepts ss) (a : Denots (types_at ss κs)) (ws : Fins κs ss ks a) → fits_of κs ss ks (handed ss ks) a ws
+  handed_fit κs [] ks a ws = tt
+  handed_fit κs (s ∷ ss) ks a ws = (tt, handed_fit κs ss ks.1 a.1 ws.1)
 
-pub handed-go : {M : Type 1} {𝓤 : Ura M} (𝓛 : Logic 𝓤) (n : ℕ) (ss : List (Slot n)) (ks : Kepts ss) → AllGo 𝓛 n ss ks (handed ss ks)
-handed-go 𝓛 n [] ks = tt
-handed-go 𝓛 n (s ∷ ss) ks = (λ κs x f vs fits. 𝓛.laws.⇛_intro _, handed-go 𝓛 n ss ks.1)
+pub handed_go : {M : Type 1} {𝓤 : Ura M} (𝓛 : Logic 𝓤) (n : ℕ) (ss : List (Slot n)) (ks : Kepts ss) → AllGo 𝓛 n ss ks (handed ss ks)
+handed_go 𝓛 n [] ks = tt
+handed_go 𝓛 n (s ∷ ss) ks = (λ κs x f vs fits. 𝓛.laws.⇛_intro _, handed_go 𝓛 n ss ks.1)
 
 module _ {M : Type 1} {𝓤 : Ura M} {𝓛 : Logic 𝓤} {K : Type 0} {Γ : List (Item 𝓤)} {G : Goal 𝓤 𝓛.H} where
   open 𝓛 use {H}

@@ -5,10 +5,10 @@ use Rattle.image.specs.Layout.{size_of}
 use Rattle.image.specs.declared.layout.Size.{Size}
 use Rattle.image.specs.declared.layout.Size.TheVariants.{Pages, Unknown}
 use Rattle.two_wire.specs.Span.{following}
-use Rattle.two_wire.specs.Region.{Lent, memoryLength, regionOf, inEither, readAt, byte_at}
-use Rattle.two_wire.specs.Record.{phaseOf, isIn, holding, entered, gathers}
+use Rattle.two_wire.specs.Region.{Lent, memory_length, region_of, in_either, read_at, byte_at}
+use Rattle.two_wire.specs.Record.{phase_of, is_in, holding, entered, gathers}
 use Rattle.two_wire.specs.Answer.{answer_of}
-use Rattle.two_wire.specs.Gathered.{storedIn, counterAfter}
+use Rattle.two_wire.specs.Gathered.{stored_in, counter_after}
 use Rattle.two_wire.specs.declared.answer.Reply.{Reply}
 use Rattle.two_wire.specs.declared.answer.Reply.TheVariants.{Refused, Nothing, Acknowledged, Declined, Byte}
 use Rattle.two_wire.specs.declared.record.BusRecord.{BusRecord}
@@ -24,14 +24,14 @@ start = 0
 abbrev pub stop : ℕ
 stop = 1
 
-abbrev pub byteSent : ℕ
-byteSent = 2
+abbrev pub byte_sent : ℕ
+byte_sent = 2
 
-abbrev pub byteReadAck : ℕ
-byteReadAck = 3
+abbrev pub byte_read_ack : ℕ
+byte_read_ack = 3
 
-abbrev pub byteReadLast : ℕ
-byteReadLast = 4
+abbrev pub byte_read_last : ℕ
+byte_read_last = 4
 
 -- what an event does to the lent buffers: they stay, or the gathered bytes of a record land in the one behind a region
 pub data Effect : Type 0 where
@@ -40,7 +40,7 @@ pub data Effect : Type 0 where
 
 unfoldable pub after : Lent → Effect → Lent
 after l keep = l
-after l (land g r) = storedIn g.buffer g.span r l
+after l (land g r) = stored_in g.buffer g.span r l
 
 -- what an event does: its reply, the record to keep, and the effect
 pub record Does : Type 0 where
@@ -60,80 +60,80 @@ abbrev pub started : BusRecord → Does
 started r = enters Nothing r Device r.counter
 
 -- "A0h and A1h are acknowledged, others not, and the tag is then deaf until start or stop."
-abbrev pub writeCode : ℕ
-writeCode = 0xA0
+abbrev pub write_code : ℕ
+write_code = 0xA0
 
 abbrev pub read_code : ℕ
 read_code = 0xA1
 
 unfoldable pub device : BusRecord → ℕ → Does
 device r b =
-    cond (b == writeCode) (enters Acknowledged r High r.counter)
+    cond (b == write_code) (enters Acknowledged r High r.counter)
     (cond (b == read_code) (enters Acknowledged r Reading r.counter)
     (enters Declined r Deaf r.counter))
 
 -- 01: "low acknowledged exactly if the address is in the window, setting the counter, else deaf with the counter kept"; 02: "A low address
 -- byte is acknowledged if it falls in either region."
 unfoldable pub addressed : ℕ → BusRecord → ℕ → Does
-addressed n r a = cond (inEither n a) (enters Acknowledged r Writing a) (enters Declined r Deaf r.counter)
+addressed n r a = cond (in_either n a) (enters Acknowledged r Writing a) (enters Declined r Deaf r.counter)
 
 -- "After A0h: high address acknowledged; low .. Data bytes are acknowledged and gathered"; "a byte sent at any other time isn't
 -- acknowledged, and in a read makes the tag deaf"
-abbrev pub sentIn : Phase → ℕ → BusRecord → ℕ → Does
-sentIn Device n r b = device r b
-sentIn High n r b = answered Acknowledged (holding r Low b r.counter)
-sentIn Low n r b = addressed n r (low_first b r.held)
-sentIn Writing n r b = answered Acknowledged (gathers r b)
-sentIn Reading n r b = enters Declined r Deaf r.counter
-sentIn Rest n r b = answered Declined r
-sentIn Deaf n r b = answered Declined r
+abbrev pub sent_in : Phase → ℕ → BusRecord → ℕ → Does
+sent_in Device n r b = device r b
+sent_in High n r b = answered Acknowledged (holding r Low b r.counter)
+sent_in Low n r b = addressed n r (low_first b r.held)
+sent_in Writing n r b = answered Acknowledged (gathers r b)
+sent_in Reading n r b = enters Declined r Deaf r.counter
+sent_in Rest n r b = answered Declined r
+sent_in Deaf n r b = answered Declined r
 
 unfoldable pub sent : ℕ → BusRecord → ℕ → Does
-sent n r b = sentIn (phaseOf r.phase) n r b
+sent n r b = sent_in (phase_of r.phase) n r b
 
 -- "Stop stores the gathered bytes ..; if any were gathered, the counter becomes the place after the last data byte .. The bus is then at
 -- rest." They go to the region of the address sent.
 unfoldable pub stopped : ℕ → BusRecord → Does
 stopped n r =
-    cond (isIn Writing r) (record { reply = Nothing; bus = entered r Rest (counterAfter r); effect = land (regionOf n r.counter) r })
+    cond (is_in Writing r) (record { reply = Nothing; bus = entered r Rest (counter_after r); effect = land (region_of n r.counter) r })
     (enters Nothing r Rest r.counter)
 
 -- 01: "After A1h each read gives the counter's byte and advances, last to first"; 02: "A sequential read stays in its own region and rolls
 -- from its last byte to its first." The tag goes on in the phase p.
 unfoldable pub read_on : Phase → ℕ → Lent → BusRecord → Does
 read_on p n l r =
-    let a = readAt n r.counter in
-    enters (Byte (byte_at n l a)) r p (following (regionOf n a).span a)
+    let a = read_at n r.counter in
+    enters (Byte (byte_at n l a)) r p (following (region_of n a).span a)
 
 -- "A read at any other time gives FFh and changes nothing"
-abbrev pub noByte : ℕ
-noByte = 0xFF
+abbrev pub no_byte : ℕ
+no_byte = 0xFF
 
 unfoldable pub read : Phase → ℕ → Lent → BusRecord → Does
-read p n l r = cond (isIn Reading r) (read_on p n l r) (answered (Byte noByte) r)
+read p n l r = cond (is_in Reading r) (read_on p n l r) (answered (Byte no_byte) r)
 
 -- "A refused call returns its number, no answer, the records it was given, and every buffer untouched."
 abbrev pub refuses : ℕ → BusRecord → Does
 refuses k r = answered (Refused k) r
 
 -- "4: bus call: event isn't one of the five"; "A read without ACK makes the tag deaf."
-unfoldable pub byEvent : ℕ → Lent → BusRecord → ℕ → ℕ → Does
-byEvent n l r event b =
+unfoldable pub by_event : ℕ → Lent → BusRecord → ℕ → ℕ → Does
+by_event n l r event b =
     cond (event == start) (started r)
     (cond (event == stop) (stopped n r)
-    (cond (event == byteSent) (sent n r b)
-    (cond (event == byteReadAck) (read Reading n l r)
-    (cond (event == byteReadLast) (read Deaf n l r)
+    (cond (event == byte_sent) (sent n r b)
+    (cond (event == byte_read_ack) (read Reading n l r)
+    (cond (event == byte_read_last) (read Deaf n l r)
     (refuses 4 r)))))
 
 -- 02: "5, bus call with a data memory that isn't 16,384 bytes, after 1 and before 4"
-unfoldable pub byMemory : ℕ → Lent → BusRecord → ℕ → ℕ → Does
-byMemory n l r event b = cond (length l.memory == memoryLength) (byEvent n l r event b) (refuses 5 r)
+unfoldable pub by_memory : ℕ → Lent → BusRecord → ℕ → ℕ → Does
+by_memory n l r event b = cond (length l.memory == memory_length) (by_event n l r event b) (refuses 5 r)
 
 -- "1: image length isn't 184, 544 or 928"; "Tested in this order."
 unfoldable pub by_size : Size → Lent → BusRecord → ℕ → ℕ → Does
 by_size Unknown l r event b = refuses 1 r
-by_size (Pages n) l r event b = byMemory n l r event b
+by_size (Pages n) l r event b = by_memory n l r event b
 
 -- all that an event does, whatever the buffers, the record, the event and the byte are
 unfoldable pub does : Lent → BusRecord → ℕ → ℕ → Does

@@ -17,37 +17,37 @@ abbrev pub both : List ℕ → List ℕ → Lent
 both img mem = record { image = img; memory = mem }
 
 -- 02: "a data memory of 16,384 bytes at 0000h-3FFFh"; "none of its bytes is kept back"
-abbrev pub memoryLength : ℕ
-memoryLength = 16384
+abbrev pub memory_length : ℕ
+memory_length = 16384
 
 abbrev pub memory : Span
-memory = record { first = 0; length = memoryLength; kept = 0 }
+memory = record { first = 0; length = memory_length; kept = 0 }
 
 -- the region of each buffer, and the bytes behind it
-abbrev pub regionIn : ℕ → Buffer → Region
-regionIn n Image = record { buffer = Image; span = window n }
-regionIn n Memory = record { buffer = Memory; span = memory }
+abbrev pub region_in : ℕ → Buffer → Region
+region_in n Image = record { buffer = Image; span = window n }
+region_in n Memory = record { buffer = Memory; span = memory }
 
-abbrev pub bytesIn : Buffer → Lent → List ℕ
-bytesIn Image l = l.image
-bytesIn Memory l = l.memory
+abbrev pub bytes_in : Buffer → Lent → List ℕ
+bytes_in Image l = l.image
+bytes_in Memory l = l.memory
 
 -- the region that an address belongs to: the data memory has its own, and the window all others, in it or past it
-unfoldable pub regionOf : ℕ → ℕ → Region
-regionOf n a = regionIn n (cond (within memory a) Memory Image)
+unfoldable pub region_of : ℕ → ℕ → Region
+region_of n a = region_in n (cond (within memory a) Memory Image)
 
-abbrev pub inEither : ℕ → ℕ → Bool
-inEither n a = within memory a || within (window n) a
+abbrev pub in_either : ℕ → ℕ → Bool
+in_either n a = within memory a || within (window n) a
 
 -- 01: "a counter outside the window counts as 4000h"; 02: "A counter in neither region still counts as 4000h."
-unfoldable pub readAt : ℕ → ℕ → ℕ
-readAt n counter = cond (inEither n counter) counter first
+unfoldable pub read_at : ℕ → ℕ → ℕ
+read_at n counter = cond (in_either n counter) counter first
 
 -- byte o of a buffer, as a read gives it: "The PWD and PACK pages read as zeros."
-abbrev pub shownIn : Buffer → ℕ → Lent → ℕ → ℕ
-shownIn Image n l o = shown n l.image (o / 4) (o % 4)
-shownIn Memory n l o = slice_index l.memory o
+abbrev pub shown_in : Buffer → ℕ → Lent → ℕ → ℕ
+shown_in Image n l o = shown n l.image (o / 4) (o % 4)
+shown_in Memory n l o = slice_index l.memory o
 
 -- the byte that a read gives at an address
 unfoldable pub byte_at : ℕ → Lent → ℕ → ℕ
-byte_at n l a = let g = regionOf n a in shownIn g.buffer n l (offset g.span a)
+byte_at n l a = let g = region_of n a in shown_in g.buffer n l (offset g.span a)

@@ -20,5 +20,5 @@ abbrev pub place_of : ℕ → ℕ
 place_of a = a % places
 
 -- "only the low six address bits advance, rolling over within the 64-byte page": the place of data byte k of a write to address a
-abbrev pub placeAfter : ℕ → ℕ → ℕ
-placeAfter a k = place_of (a + k)
+abbrev pub place_after : ℕ → ℕ → ℕ
+place_after a k = place_of (a + k)

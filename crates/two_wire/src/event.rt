@@ -1,8 +1,8 @@
 // What each event on the two wires does.
 ghost use Rattle.std.specs.Prelude.{◌≡◌, ◌≤◌, length};
 ghost use Rattle.image.specs.Layout.{Fits};
-ghost use Rattle.two_wire.specs.Region.{both, memoryLength};
-ghost use Rattle.two_wire.specs.Event.{answered, enters, started, device, addressed, sent, stopped, read_on, read, byEvent, byMemory, does, Did, Says};
+ghost use Rattle.two_wire.specs.Region.{both, memory_length};
+ghost use Rattle.two_wire.specs.Event.{answered, enters, started, device, addressed, sent, stopped, read_on, read, by_event, by_memory, does, Did, Says};
 
 use crate::answer::{BusAnswer, Reply, answer_of};
 use crate::gathered::{counter_after, store};
@@ -103,7 +103,7 @@ fn take_byte(n: usize, rec: BusRecord, byte: u8) -> BusStep
 }
 
 fn stop(image: &mut [u8], memory: &mut [u8], n: usize, rec: BusRecord) -> BusStep
-    requires { Fits n image.old × (length memory.old ≡ memoryLength) }
+    requires { Fits n image.old × (length memory.old ≡ memory_length) }
     ensures { Did (stopped n rec) result (both image.old memory.old) (both image.new memory.new) }
 {
     if rec.phase == number_of(Phase::Writing) {
@@ -116,7 +116,7 @@ fn stop(image: &mut [u8], memory: &mut [u8], n: usize, rec: BusRecord) -> BusSte
 
 // A byte read while the tag gives them; it then goes on in another phase.
 fn read_on(image: &[u8], memory: &[u8], n: usize, rec: BusRecord, then: Phase) -> BusStep
-    requires { Fits n image.now × (length memory.now ≡ memoryLength) }
+    requires { Fits n image.now × (length memory.now ≡ memory_length) }
     ensures { Says (read_on then n (both image.now memory.now) rec) result }
 {
     let region = region_of(n, rec.counter);
@@ -138,7 +138,7 @@ fn read_on(image: &[u8], memory: &[u8], n: usize, rec: BusRecord, then: Phase) -
 
 // A byte read.
 fn read(image: &[u8], memory: &[u8], n: usize, rec: BusRecord, then: Phase) -> BusStep
-    requires { Fits n image.now × (length memory.now ≡ memoryLength) }
+    requires { Fits n image.now × (length memory.now ≡ memory_length) }
     ensures { Says (read then n (both image.now memory.now) rec) result }
 {
     if rec.phase == number_of(Phase::Reading) {
@@ -156,8 +156,8 @@ fn by_event(
     event: u8,
     byte: u8,
 ) -> BusStep
-    requires { Fits n image.old × (length memory.old ≡ memoryLength) }
-    ensures { Did (byEvent n (both image.old memory.old) rec event byte) result (both image.old memory.old) (both image.new memory.new) }
+    requires { Fits n image.old × (length memory.old ≡ memory_length) }
+    ensures { Did (by_event n (both image.old memory.old) rec event byte) result (both image.old memory.old) (both image.new memory.new) }
 {
     match event {
         START => start(rec),
@@ -179,7 +179,7 @@ fn by_memory(
     byte: u8,
 ) -> BusStep
     requires { Fits n image.old }
-    ensures { Did (byMemory n (both image.old memory.old) rec event byte) result (both image.old memory.old) (both image.new memory.new) }
+    ensures { Did (by_memory n (both image.old memory.old) rec event byte) result (both image.old memory.old) (both image.new memory.new) }
 {
     if memory.len() == MEMORY_LENGTH {
         by_event(image, memory, n, rec, event, byte)

@@ -1,7 +1,7 @@
 // The gathered bytes: which they are, and where a stop stores them.
 ghost use Rattle.std.specs.Prelude.{◌≡◌, ◌≤◌, length};
-ghost use Rattle.two_wire.specs.Region.{both, bytesIn};
-ghost use Rattle.two_wire.specs.Gathered.{gathered, landedAt, landed, storedIn, counterAfter};
+ghost use Rattle.two_wire.specs.Region.{both, bytes_in};
+ghost use Rattle.two_wire.specs.Gathered.{gathered, landed_at, landed, stored_in, counter_after};
 
 use crate::record::BusRecord;
 use crate::region::{Buffer, Region};
@@ -18,7 +18,7 @@ fn gathered(rec: BusRecord) -> u8
 // A gathered byte, stored at its address.
 fn land_at(buffer: &mut [u8], span: Span, address: u16, byte: u8)
     requires { span.length ≤ length buffer.old }
-    ensures { buffer.new ≡ landedAt span address byte buffer.old }
+    ensures { buffer.new ≡ landed_at span address byte buffer.old }
 {
     if within(span, address) {
         let at = offset(span, address);
@@ -50,8 +50,8 @@ fn land(buffer: &mut [u8], span: Span, rec: BusRecord)
 
 // The gathered bytes, stored in the buffer of a region.
 pub fn store(image: &mut [u8], memory: &mut [u8], region: Region, rec: BusRecord)
-    requires { region.span.length ≤ length (bytesIn region.buffer (both image.old memory.old)) }
-    ensures { both image.new memory.new ≡ storedIn region.buffer region.span rec (both image.old memory.old) }
+    requires { region.span.length ≤ length (bytes_in region.buffer (both image.old memory.old)) }
+    ensures { both image.new memory.new ≡ stored_in region.buffer region.span rec (both image.old memory.old) }
 {
     let buffer = region.buffer;
     let span = region.span;
@@ -63,7 +63,7 @@ pub fn store(image: &mut [u8], memory: &mut [u8], region: Region, rec: BusRecord
 
 // The counter that a stop leaves.
 pub fn counter_after(rec: BusRecord) -> u16
-    ensures { result ≡ counterAfter rec }
+    ensures { result ≡ counter_after rec }
 {
     if rec.held == 0 {
         rec.counter

@@ -1,6 +1,6 @@
 // The bus record: its phase, and the records that the events leave.
 ghost use Rattle.std.specs.Prelude.{◌≡◌};
-ghost use Rattle.two_wire.specs.Record.{number_of, phaseOf, holding, atRest, oneMore, gathers};
+ghost use Rattle.two_wire.specs.Record.{number_of, phase_of, holding, at_rest, one_more, gathers};
 
 use crate::window::{FIRST, place_after};
 
@@ -43,7 +43,7 @@ pub fn number_of(phase: Phase) -> u8
 }
 
 pub fn phase_of(number: u8) -> Phase
-    ensures { result ≡ phaseOf number }
+    ensures { result ≡ phase_of number }
 {
     match number {
         1 => Phase::Device,
@@ -58,7 +58,7 @@ pub fn phase_of(number: u8) -> Phase
 
 // The record at rest that a driver begins with. Every other record is made from the one that came in.
 pub fn bus_at_rest() -> BusRecord
-    ensures { result ≡ atRest }
+    ensures { result ≡ at_rest }
 {
     BusRecord {
         phase: 0,
@@ -82,7 +82,7 @@ pub fn holding(rec: BusRecord, phase: Phase, held: u8, counter: u16) -> BusRecor
 
 // The count of data bytes after one more.
 fn one_more(count: u8) -> u8
-    ensures { result ≡ oneMore count }
+    ensures { result ≡ one_more count }
 {
     if count < 64 {
         count + 1

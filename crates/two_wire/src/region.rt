@@ -1,6 +1,6 @@
 // The regions of addresses: the window on the image, and the data memory. Both have the same rules.
 ghost use Rattle.std.specs.Prelude.{◌≡◌, ◌≤◌};
-ghost use Rattle.two_wire.specs.Region.{regionOf, inEither};
+ghost use Rattle.two_wire.specs.Region.{region_of, in_either};
 
 use crate::span::{Span, within};
 use crate::window::window;
@@ -31,7 +31,7 @@ const MEMORY: Span = Span {
 // The region that an address belongs to: the window, unless it is one of the data memory.
 pub fn region_of(n: usize, address: u16) -> Region
     requires { n ≤ 231 }
-    ensures { result ≡ regionOf n address }
+    ensures { result ≡ region_of n address }
 {
     if within(MEMORY, address) {
         return Region {
@@ -49,7 +49,7 @@ pub fn region_of(n: usize, address: u16) -> Region
 // The window begins where the data memory ends, so that one test tells of both.
 pub fn in_either(n: usize, address: u16) -> bool
     requires { n ≤ 231 }
-    ensures { result ≡ inEither n address }
+    ensures { result ≡ in_either n address }
 {
     (address as usize) < MEMORY_LENGTH + 4 * n
 }

@@ -1,6 +1,6 @@
 // The window's addresses, and the 64-byte pages of addresses.
 ghost use Rattle.std.specs.Prelude.{◌≡◌, ◌<◌, ◌≤◌};
-ghost use Rattle.two_wire.specs.Window.{window, page_of, placeAfter};
+ghost use Rattle.two_wire.specs.Window.{window, page_of, place_after};
 
 use crate::span::Span;
 
@@ -29,7 +29,7 @@ pub fn page_of(address: u16) -> u16
 
 // The place of data byte k of a write to an address, rolling over within the 64-byte page.
 pub fn place_after(address: u16, k: u8) -> u8
-    ensures { (result ≡ placeAfter address k) × (result < 64) }
+    ensures { (result ≡ place_after address k) × (result < 64) }
 {
     let low = basics::low_byte(address);
     std::num::wrapping_add_u8(low, k) % 64

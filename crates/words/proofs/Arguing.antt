@@ -10,9 +10,9 @@ use lib.ListN.{length, take, drop, set, get_or, length-take, length-drop, drop_o
 use lib.Seq.{take-suc-set, drop-cons, drop-drop, get_or-set_same, get_or-set_other, get_or-take}
 use borrow.Author.Tests.{lt-ltb, le-ltb, ltb-true, ltb-false, eq-eqb, ne_eqb, eqb-true, eqb-false}
 use Rattle.basics.proofs.Choice.{split, by}
-use Rattle.words.specs.Pack.{packedOf}
-use Rattle.words.specs.Word.{wordEnd, first_of, rest_of, goesOn, Value, none, value, valueFrom, number_in, behind, reads, ends_at, ArgFits}
-use Rattle.words.specs.Args.{either_of, value_of, Args, bad, good, join, args_of, kindsOf, Said, given, wrong, enough, argued, saidIn, judged, saidBy, most_of, roomOf, room_for, Bounded, GivenFits, kind_at}
+use Rattle.words.specs.Pack.{packed_of}
+use Rattle.words.specs.Word.{word_end, first_of, rest_of, goes_on, Value, none, value, value_from, number_in, behind, reads, ends_at, ArgFits}
+use Rattle.words.specs.Args.{either_of, value_of, Args, bad, good, join, args_of, kinds_of, Said, given, wrong, enough, argued, said_in, judged, said_by, most_of, room_of, room_for, Bounded, GivenFits, kind_at}
 use Rattle.words.specs.declared.word.Arg.{Arg}
 use Rattle.words.specs.declared.word.Arg.TheVariants as arg
 use Rattle.words.specs.declared.args.Kind.{Kind}
@@ -21,42 +21,42 @@ use Rattle.words.specs.declared.args.Shape.{Shape}
 use Rattle.words.specs.declared.args.Verdict.{Verdict}
 use Rattle.words.specs.declared.args.Verdict.TheVariants as verdict
 use Rattle.words.specs.declared.args.Given.{Given}
-use Rattle.words.proofs.Whole.{too_long}
+use Rattle.words.proofs.Whole.{too_long_lem}
 
 -- ---- one argument
 
-module _ (w : List ℕ) (one other at k : ℕ) (number : k ≡ packedOf w) where
-  pub either-one : k ≡ one → arg.Of 0 at ≡ ends_at at (either_of one other w)
+module _ (w : List ℕ) (one other at k : ℕ) (number : k ≡ packed_of w) where
+  pub either_one : k ≡ one → arg.Of 0 at ≡ ends_at at (either_of one other w)
   unfolding either_of
-  either-one e = rw (← number, eq-eqb k one e)
+  either_one e = rw (← number, eq-eqb k one e)
 
-  pub either-other : (k ≡ one → ⊥) → k ≡ other → arg.Of 1 at ≡ ends_at at (either_of one other w)
+  pub either_other : (k ≡ one → ⊥) → k ≡ other → arg.Of 1 at ≡ ends_at at (either_of one other w)
   unfolding either_of
-  either-other n e = rw (← number, ne_eqb k one n, eq-eqb k other e)
+  either_other n e = rw (← number, ne_eqb k one n, eq-eqb k other e)
 
-  pub either-none : (k ≡ one → ⊥) → (k ≡ other → ⊥) → arg.None ≡ ends_at at (either_of one other w)
+  pub either_none : (k ≡ one → ⊥) → (k ≡ other → ⊥) → arg.None ≡ ends_at at (either_of one other w)
   unfolding either_of
-  either-none n m = rw (← number, ne_eqb k one n, ne_eqb k other m)
+  either_none n m = rw (← number, ne_eqb k one n, ne_eqb k other m)
 
 -- an argument that is known to be of a kind
 module _ (k k' : Kind) (e : k ≡ k') where
-  pub kind-told : (v : Value) (front w : List ℕ) → v ≡ behind front (value_of k' w) → v ≡ behind front (value_of k w)
-  kind-told v front w h = h ∙ ap (λ (y : Kind). behind front (value_of y w)) (sym e)
+  pub kind_told_lem : (v : Value) (front w : List ℕ) → v ≡ behind front (value_of k' w) → v ≡ behind front (value_of k w)
+  kind_told_lem v front w h = h ∙ ap (λ (y : Kind). behind front (value_of y w)) (sym e)
 
-  pub kind_fits : (r : Arg) (at : ℕ) → ArgFits (most_of k') (at + roomOf k') r → ArgFits (most_of k) (at + roomOf k) r
-  kind_fits r at h = subst⁻¹ (λ (y : Kind). ArgFits (most_of y) (at + roomOf y) r) e h
+  pub kind_fits : (r : Arg) (at : ℕ) → ArgFits (most_of k') (at + room_of k') r → ArgFits (most_of k) (at + room_of k) r
+  kind_fits r at h = subst⁻¹ (λ (y : Kind). ArgFits (most_of y) (at + room_of y) r) e h
 
-  pub kind-room : (at n : ℕ) → at + roomOf k ≤ n → at + roomOf k' ≤ n
-  kind-room at n h = subst (λ (y : Kind). at + roomOf y ≤ n) e h
+  pub kind_room : (at n : ℕ) → at + room_of k ≤ n → at + room_of k' ≤ n
+  kind_room at n h = subst (λ (y : Kind). at + room_of y ≤ n) e h
 
-  pub bytes-room : (at n m : ℕ) → m ≡ roomOf k' → at + roomOf k ≤ n → at + m ≤ n
-  bytes-room at n m z h = omega (arith, kind-room at n h)
+  pub bytes_room : (at n m : ℕ) → m ≡ room_of k' → at + room_of k ≤ n → at + m ≤ n
+  bytes_room at n m z h = omega (arith, kind_room at n h)
 
 -- an argument that has no bytes
 module _ (k k' : Kind) (e : k ≡ k') (r : Arg) (at : ℕ) where
-  pub plain_fits : roomOf k' ≡ 0 → ArgFits (most_of k') at r → ArgFits (most_of k) (at + roomOf k) r
+  pub plain_fits : room_of k' ≡ 0 → ArgFits (most_of k') at r → ArgFits (most_of k) (at + room_of k) r
   plain_fits z h =
-      let p : at ≡ at + roomOf k' = omega (arith, z) in
+      let p : at ≡ at + room_of k' = omega (arith, z) in
       kind_fits k k' e r at (subst (λ (n : ℕ). ArgFits (most_of k') n r) p h)
 
 module _ (at : ℕ) (xs : List ℕ) where
@@ -68,20 +68,20 @@ module _ (at : ℕ) (xs : List ℕ) where
 
   module _ (k : Kind) (r : Arg) (w : List ℕ) where
     as_plain : (k' : Kind) → k ≡ k' → r ≡ ends_at at (value_of k' w) → Plain (value_of k' w) → reads r xs ≡ behind (take at xs) (value_of k w)
-    as_plain k' e f p = kind-told k k' e (reads r xs) (take at xs) w (ap (λ (a : Arg). reads a xs) f ∙ p)
+    as_plain k' e f p = kind_told_lem k k' e (reads r xs) (take at xs) w (ap (λ (a : Arg). reads a xs) f ∙ p)
 
-    pub number-told : (base least digits most : ℕ) → k ≡ kind.Number base least digits most → r ≡ ends_at at (number_in base least digits most w)
+    pub number_told : (base least digits most : ℕ) → k ≡ kind.Number base least digits most → r ≡ ends_at at (number_in base least digits most w)
         → reads r xs ≡ behind (take at xs) (value_of k w)
     unfolding value_of
-    number-told base least digits most e f =
+    number_told base least digits most e f =
         as_plain (kind.Number base least digits most) e f
-        (by Plain (leb least (length w) && leb (length w) digits && leb (valueFrom base 0 w) most) (λ t. plain (valueFrom base 0 w)) (λ t. refl))
+        (by Plain (leb least (length w) && leb (length w) digits && leb (value_from base 0 w) most) (λ t. plain (value_from base 0 w)) (λ t. refl))
 
-    pub either-told : (one other : ℕ) → k ≡ kind.Either one other → r ≡ ends_at at (either_of one other w) → reads r xs ≡ behind (take at xs) (value_of k w)
+    pub either_told : (one other : ℕ) → k ≡ kind.Either one other → r ≡ ends_at at (either_of one other w) → reads r xs ≡ behind (take at xs) (value_of k w)
     unfolding value_of either_of
-    either-told one other e f =
+    either_told one other e f =
         as_plain (kind.Either one other) e f
-        (by Plain (eqb (packedOf w) one) (λ t. plain 0) (λ t. by Plain (eqb (packedOf w) other) (λ u. plain 1) (λ u. refl)))
+        (by Plain (eqb (packed_of w) one) (λ t. plain 0) (λ t. by Plain (eqb (packed_of w) other) (λ u. plain 1) (λ u. refl)))
 
 pub third : (s : Shape) (i : ℕ) → (i ≡ 0 → ⊥) → (i ≡ 1 → ⊥) → i < 3 → kind_at s i ≡ s.3
 third s i a b h = let e : i ≡ 2 = omega arith in ap (kind_at s) e
@@ -97,39 +97,39 @@ zeros s = record { below = λ j. omega (arith, each j); beyond = λ j h. each j 
     each (suc (suc zero)) = refl
     each (suc (suc (suc j))) = refl
 
-pub fits : (s : Shape) (r : Given) (x : ℕ) → Bounded s r.count r.numbers → r.end + x ≤ room_for (kindsOf s) → GivenFits s r
+pub fits : (s : Shape) (r : Given) (x : ℕ) → Bounded s r.count r.numbers → r.end + x ≤ room_for (kinds_of s) → GivenFits s r
 fits s r x b h = record { numbers = b; end = omega arith }
 
-pub none-fits : (s : Shape) (r : Given) → r.count ≡ 0 → r.numbers ≡ 0 ∷ 0 ∷ 0 ∷ [] → r.end ≡ 0 → GivenFits s r
-none-fits s r c n e = record { numbers = rw (c, n) (zeros s); end = omega (arith, e) }
+pub none_fits : (s : Shape) (r : Given) → r.count ≡ 0 → r.numbers ≡ 0 ∷ 0 ∷ 0 ∷ [] → r.end ≡ 0 → GivenFits s r
+none_fits s r c n e = record { numbers = rw (c, n) (zeros s); end = omega (arith, e) }
 
 -- so a number may be looked up among all of them
-pub looked-up : (s : Shape) (c : ℕ) (ns : List ℕ) → Bounded s c ns → (j : ℕ) → get_or (take c ns) j 0 ≡ get_or ns j 0
-looked-up s c ns b j = split (ltb j c) (λ e. get_or-take c ns j 0 (ltb-true j c e)) (λ e. let h : c ≤ j = ltb-false j c e in none-there h ∙ sym (b.beyond j h))
+pub looked_up : (s : Shape) (c : ℕ) (ns : List ℕ) → Bounded s c ns → (j : ℕ) → get_or (take c ns) j 0 ≡ get_or ns j 0
+looked_up s c ns b j = split (ltb j c) (λ e. get_or-take c ns j 0 (ltb-true j c e)) (λ e. let h : c ≤ j = ltb-false j c e in none_there h ∙ sym (b.beyond j h))
   where
-    none-there : c ≤ j → get_or (take c ns) j 0 ≡ 0
-    none-there h = get_or-eq_default (take c ns) 0 (let z : length (take c ns) ≤ j = simp length-take (omega arith) in z)
+    none_there : c ≤ j → get_or (take c ns) j 0 ≡ 0
+    none_there h = get_or-eq_default (take c ns) 0 (let z : length (take c ns) ≤ j = simp length-take (omega arith) in z)
 
 -- the room of what is left, before the next argument and behind it
 module _ (s : Shape) (i : ℕ) (few : i < 3) where
-  opened-kinds : drop i (kindsOf s) ≡ kind_at s i ∷ drop (i + 1) (kindsOf s)
-  opened-kinds = drop-cons (kindsOf s) i kind.Nothing few ∙ ap (λ (j : ℕ). kind_at s i ∷ drop j (kindsOf s)) (sym (add-one i))
+  opened_kinds : drop i (kinds_of s) ≡ kind_at s i ∷ drop (i + 1) (kinds_of s)
+  opened_kinds = drop-cons (kinds_of s) i kind.Nothing few ∙ ap (λ (j : ℕ). kind_at s i ∷ drop j (kinds_of s)) (sym (add-one i))
 
-  room-left : room_for (drop i (kindsOf s)) ≡ roomOf (kind_at s i) + room_for (drop (i + 1) (kindsOf s))
-  room-left = ap room_for opened-kinds
+  room_left : room_for (drop i (kinds_of s)) ≡ room_of (kind_at s i) + room_for (drop (i + 1) (kinds_of s))
+  room_left = ap room_for opened_kinds
 
-  pub room-here : (end n m : ℕ) → end + room_for (drop i (kindsOf s)) ≤ room_for (kindsOf s) → n ≡ m → room_for (kindsOf s) ≤ m → end + roomOf (kind_at s i) ≤ n
-  room-here end n m h e g = omega (arith, room-left)
+  pub room_here : (end n m : ℕ) → end + room_for (drop i (kinds_of s)) ≤ room_for (kinds_of s) → n ≡ m → room_for (kinds_of s) ≤ m → end + room_of (kind_at s i) ≤ n
+  room_here end n m h e g = omega (arith, room_left)
 
-  module _ (r : Arg) (n end e : ℕ) (t : r ≡ arg.Of n e) (f : ArgFits (most_of (kind_at s i)) (end + roomOf (kind_at s i)) r) where
-    fitted : (n ≤ most_of (kind_at s i)) × (e ≤ end + roomOf (kind_at s i))
-    fitted = subst (ArgFits (most_of (kind_at s i)) (end + roomOf (kind_at s i))) t f
+  module _ (r : Arg) (n end e : ℕ) (t : r ≡ arg.Of n e) (f : ArgFits (most_of (kind_at s i)) (end + room_of (kind_at s i)) r) where
+    fitted : (n ≤ most_of (kind_at s i)) × (e ≤ end + room_of (kind_at s i))
+    fitted = subst (ArgFits (most_of (kind_at s i)) (end + room_of (kind_at s i))) t f
 
-    pub room_next : end + room_for (drop i (kindsOf s)) ≤ room_for (kindsOf s) → e + room_for (drop (i + 1) (kindsOf s)) ≤ room_for (kindsOf s)
-    room_next h = omega (arith, room-left, fitted.1)
+    pub room_next : end + room_for (drop i (kinds_of s)) ≤ room_for (kinds_of s) → e + room_for (drop (i + 1) (kinds_of s)) ≤ room_for (kinds_of s)
+    room_next h = omega (arith, room_left, fitted.1)
 
-    pub bounded-next : (ns : List ℕ) → length ns ≡ 3 → Bounded s i ns → Bounded s (i + 1) (set ns i n)
-    bounded-next ns three b = record { below = each; beyond = λ j h. get_or-set_other ns i j n 0 (λ q. omega arith) ∙ b.beyond j (omega arith) }
+    pub bounded_next : (ns : List ℕ) → length ns ≡ 3 → Bounded s i ns → Bounded s (i + 1) (set ns i n)
+    bounded_next ns three b = record { below = each; beyond = λ j h. get_or-set_other ns i j n 0 (λ q. omega arith) ∙ b.beyond j (omega arith) }
       where
         each : (j : ℕ) → get_or (set ns i n) j 0 ≤ most_of (kind_at s j)
         each j =
@@ -139,18 +139,18 @@ module _ (s : Shape) (i : ℕ) (few : i < 3) where
 
 -- ---- the next word
 
-module _ (w : List ℕ) (s stop : ℕ) (in-line : s ≤ length w) (e : stop ≡ s + wordEnd (drop s w)) where
+module _ (w : List ℕ) (s stop : ℕ) (in_line : s ≤ length w) (e : stop ≡ s + word_end (drop s w)) where
   word_cut : take (stop - s) (drop s w) ≡ first_of (drop s w)
-  word_cut = let p : stop - s ≡ wordEnd (drop s w) = omega arith in ap (λ (k : ℕ). take k (drop s w)) p
+  word_cut = let p : stop - s ≡ word_end (drop s w) = omega arith in ap (λ (k : ℕ). take k (drop s w)) p
 
-  rest-cut : rest_of (drop s w) ≡ drop (stop + 1) w
-  rest-cut = let p : s + (wordEnd (drop s w) + 1) ≡ stop + 1 = omega arith in drop-drop (wordEnd (drop s w) + 1) s w ∙ ap (λ (k : ℕ). drop k w) p
+  rest_cut : rest_of (drop s w) ≡ drop (stop + 1) w
+  rest_cut = let p : s + (word_end (drop s w) + 1) ≡ stop + 1 = omega arith in drop-drop (word_end (drop s w) + 1) s w ∙ ap (λ (k : ℕ). drop k w) p
 
-  on-cut : goesOn (drop s w) ≡ ltb stop (length w)
-  on-cut =
+  on_cut : goes_on (drop s w) ≡ ltb stop (length w)
+  on_cut =
       split (ltb stop (length w))
-      (λ t. let h : stop < length w = ltb-true stop (length w) t in lt-ltb (wordEnd (drop s w)) (length (drop s w)) (omega (arith, left)) ∙ sym t)
-      (λ t. let h : length w ≤ stop = ltb-false stop (length w) t in le-ltb (wordEnd (drop s w)) (length (drop s w)) (omega (arith, left)) ∙ sym t)
+      (λ t. let h : stop < length w = ltb-true stop (length w) t in lt-ltb (word_end (drop s w)) (length (drop s w)) (omega (arith, left)) ∙ sym t)
+      (λ t. let h : length w ≤ stop = ltb-false stop (length w) t in le-ltb (word_end (drop s w)) (length (drop s w)) (omega (arith, left)) ∙ sym t)
     where
       left : length (drop s w) ≡ length w - s
       left = simp length-drop
@@ -162,105 +162,105 @@ abbrev before : List ℕ → List ℕ → Args → Args
 before ns bs bad = bad
 before ns bs (good ms cs) = good (ns ++ ms) (bs ++ cs)
 
-before-none : (a : Args) → before [] [] a ≡ a
-before-none bad = refl
-before-none (good ms cs) = refl
+before_none : (a : Args) → before [] [] a ≡ a
+before_none bad = refl
+before_none (good ms cs) = refl
 
 abbrev whole : Shape → List ℕ → Args
-whole s text = args_of (kindsOf s) (goesOn text) (rest_of text)
+whole s text = args_of (kinds_of s) (goes_on text) (rest_of text)
 
 -- the first i arguments are read, up to `at`: before what the rest of the line gives they are what the whole line gives
 pub record Sofar (s : Shape) (text : List ℕ) (at i : ℕ) (ns bs : List ℕ) : Type 0 where
-  pub all : before ns bs (args_of (drop i (kindsOf s)) (ltb at (length text)) (drop (at + 1) text)) ≡ whole s text
+  pub all : before ns bs (args_of (drop i (kinds_of s)) (ltb at (length text)) (drop (at + 1) text)) ≡ whole s text
 
-one-joined : (ns front ys : List ℕ) (n : ℕ) (v : Value) (a : Args) → value n ys ≡ behind front v → before ns front (join v a) ≡ before (ns ++ (n ∷ [])) ys a
-one-joined ns front ys n none a e = absurd (let z : ◌≡◌ {A = ℕ} 0 1 = cc in omega arith)
-one-joined ns front ys n (value m cs) bad e = refl
-one-joined ns front ys n (value m cs) (good ms ds) e =
+one_joined : (ns front ys : List ℕ) (n : ℕ) (v : Value) (a : Args) → value n ys ≡ behind front v → before ns front (join v a) ≡ before (ns ++ (n ∷ [])) ys a
+one_joined ns front ys n none a e = absurd (let z : ◌≡◌ {A = ℕ} 0 1 = cc in omega arith)
+one_joined ns front ys n (value m cs) bad e = refl
+one_joined ns front ys n (value m cs) (good ms ds) e =
     let p : m ≡ n = cc in
     let q : front ++ cs ≡ ys = cc in
     ap₂ good (ap (λ (k : ℕ). ns ++ (k ∷ ms)) p ∙ sym (append_assoc ns (n ∷ []) ms)) (sym (append_assoc front cs ds) ∙ ap (λ (l : List ℕ). l ++ ds) q)
 
-none-joined : (ns front : List ℕ) (v : Value) (a : Args) → none ≡ behind front v → before ns front (join v a) ≡ bad
-none-joined ns front none a e = refl
-none-joined ns front (value m cs) a e = absurd (let z : ◌≡◌ {A = ℕ} 0 1 = cc in omega arith)
+none_joined : (ns front : List ℕ) (v : Value) (a : Args) → none ≡ behind front v → before ns front (join v a) ≡ bad
+none_joined ns front none a e = refl
+none_joined ns front (value m cs) a e = absurd (let z : ◌≡◌ {A = ℕ} 0 1 = cc in omega arith)
 
-pub args-start : (s : Shape) (text ns bs : List ℕ) (first : ℕ) → first ≡ 0 + wordEnd (drop 0 text) → Sofar s text first 0 (take 0 ns) (take 0 bs)
-args-start s text ns bs first e =
-    let p : first ≡ wordEnd text = omega (arith, e) in
+pub args_start : (s : Shape) (text ns bs : List ℕ) (first : ℕ) → first ≡ 0 + word_end (drop 0 text) → Sofar s text first 0 (take 0 ns) (take 0 bs)
+args_start s text ns bs first e =
+    let p : first ≡ word_end text = omega (arith, e) in
     record {
-      all = before-none (args_of (kindsOf s) (ltb first (length text)) (drop (first + 1) text)) ∙ ap (λ (k : ℕ). args_of (kindsOf s) (ltb k (length text)) (drop (k + 1) text)) p;
+      all = before_none (args_of (kinds_of s) (ltb first (length text)) (drop (first + 1) text)) ∙ ap (λ (k : ℕ). args_of (kinds_of s) (ltb k (length text)) (drop (k + 1) text)) p;
     }
 
 module _ (s : Shape) (text : List ℕ) (at i : ℕ) where
   -- no more than three
-  args-many : (ns bs : List ℕ) → at < length text → 3 ≤ i → Sofar s text at i ns bs → bad ≡ whole s text
+  args_many : (ns bs : List ℕ) → at < length text → 3 ≤ i → Sofar s text at i ns bs → bad ≡ whole s text
   unfolding args_of
-  args-many ns bs h k inv =
-      let d : drop i (kindsOf s) ≡ [] = drop_of_length-le (kindsOf s) k in
+  args_many ns bs h k inv =
+      let d : drop i (kinds_of s) ≡ [] = drop_of_length-le (kinds_of s) k in
       sym (ap₂ (λ (ks : List Kind) (o : Bool). before ns bs (args_of ks o (drop (at + 1) text))) d (lt-ltb at (length text) h)) ∙ inv.all
 
   args_over : (ns bs : List ℕ) → length text ≤ at → Sofar s text at i ns bs → good ns bs ≡ whole s text
   unfolding args_of
-  args_over ns bs h inv = ap₂ good (sym (append-nil ns)) (sym (append-nil bs)) ∙ sym (both (drop i (kindsOf s))) ∙ inv.all
+  args_over ns bs h inv = ap₂ good (sym (append-nil ns)) (sym (append-nil bs)) ∙ sym (both (drop i (kinds_of s))) ∙ inv.all
     where
       both : (ks : List Kind) → before ns bs (args_of ks (ltb at (length text)) (drop (at + 1) text)) ≡ good (ns ++ []) (bs ++ [])
       both [] = ap (λ (o : Bool). before ns bs (args_of [] o (drop (at + 1) text))) (le-ltb at (length text) h)
       both (k ∷ ks) = ap (λ (o : Bool). before ns bs (args_of (k ∷ ks) o (drop (at + 1) text))) (le-ltb at (length text) h)
 
   module _ (ns front : List ℕ) (stop : ℕ) (r : Arg) (xs : List ℕ) (test : at < length text) (few : i < 3)
-      (at-stop : stop ≡ at + 1 + wordEnd (drop (at + 1) text)) (inv : Sofar s text at i ns front)
+      (at_stop : stop ≡ at + 1 + word_end (drop (at + 1) text)) (inv : Sofar s text at i ns front)
       (e : reads r xs ≡ behind front (value_of (kind_at s i) (take (stop - (at + 1)) (drop (at + 1) text)))) where
     abbrev rest : Args
-    rest = args_of (drop (i + 1) (kindsOf s)) (ltb stop (length text)) (drop (stop + 1) text)
+    rest = args_of (drop (i + 1) (kinds_of s)) (ltb stop (length text)) (drop (stop + 1) text)
 
     opened : before ns front (join (value_of (kind_at s i) (take (stop - (at + 1)) (drop (at + 1) text))) rest) ≡ whole s text
     unfolding args_of
     opened =
         let l : at + 1 ≤ length text = omega arith in
-        ap₂ (λ (x : List ℕ) (a : Args). before ns front (join (value_of (kind_at s i) x) a)) (word_cut text (at + 1) stop l at-stop)
-        (ap₂ (λ (o : Bool) (x : List ℕ). args_of (drop (i + 1) (kindsOf s)) o x) (sym (on-cut text (at + 1) stop l at-stop)) (sym (rest-cut text (at + 1) stop l at-stop)))
-        ∙ sym (ap₂ (λ (ks : List Kind) (o : Bool). before ns front (args_of ks o (drop (at + 1) text))) (opened-kinds s i few) (lt-ltb at (length text) test))
+        ap₂ (λ (x : List ℕ) (a : Args). before ns front (join (value_of (kind_at s i) x) a)) (word_cut text (at + 1) stop l at_stop)
+        (ap₂ (λ (o : Bool) (x : List ℕ). args_of (drop (i + 1) (kinds_of s)) o x) (sym (on_cut text (at + 1) stop l at_stop)) (sym (rest_cut text (at + 1) stop l at_stop)))
+        ∙ sym (ap₂ (λ (ks : List Kind) (o : Bool). before ns front (args_of ks o (drop (at + 1) text))) (opened_kinds s i few) (lt-ltb at (length text) test))
         ∙ inv.all
 
-    args-bad : r ≡ arg.None → bad ≡ whole s text
-    args-bad t =
-        sym (none-joined ns front (value_of (kind_at s i) (take (stop - (at + 1)) (drop (at + 1) text))) rest (ap (λ (a : Arg). reads a xs) (sym t) ∙ e)) ∙ opened
+    args_bad : r ≡ arg.None → bad ≡ whole s text
+    args_bad t =
+        sym (none_joined ns front (value_of (kind_at s i) (take (stop - (at + 1)) (drop (at + 1) text))) rest (ap (λ (a : Arg). reads a xs) (sym t) ∙ e)) ∙ opened
 
-    args-turn : (n end : ℕ) → r ≡ arg.Of n end → before (ns ++ (n ∷ [])) (take end xs) rest ≡ whole s text
-    args-turn n end t =
-        sym (one-joined ns front (take end xs) n (value_of (kind_at s i) (take (stop - (at + 1)) (drop (at + 1) text))) rest (ap (λ (a : Arg). reads a xs) (sym t) ∙ e)) ∙ opened
+    args_turn : (n end : ℕ) → r ≡ arg.Of n end → before (ns ++ (n ∷ [])) (take end xs) rest ≡ whole s text
+    args_turn n end t =
+        sym (one_joined ns front (take end xs) n (value_of (kind_at s i) (take (stop - (at + 1)) (drop (at + 1) text))) rest (ap (λ (a : Arg). reads a xs) (sym t) ∙ e)) ∙ opened
 
-    pub args-next : (n end : ℕ) (numbers : List ℕ) → r ≡ arg.Of n end → ns ≡ take i numbers → length numbers ≡ 3
+    pub args_next : (n end : ℕ) (numbers : List ℕ) → r ≡ arg.Of n end → ns ≡ take i numbers → length numbers ≡ 3
         → Sofar s text stop (i + 1) (take (i + 1) (set numbers i n)) (take end xs)
-    args-next n end numbers t en three =
+    args_next n end numbers t en three =
         let h : i < length numbers = omega arith in
         let p : take (i + 1) (set numbers i n) ≡ ns ++ (n ∷ []) = ap (λ (j : ℕ). take j (set numbers i n)) (add-one i) ∙ take-suc-set numbers i n h ∙ ap (λ (l : List ℕ). l ++ (n ∷ [])) (sym en) in
-        record { all = ap (λ (l : List ℕ). before l (take end xs) rest) p ∙ args-turn n end t }
+        record { all = ap (λ (l : List ℕ). before l (take end xs) rest) p ∙ args_turn n end t }
 
 -- ---- a whole line
 
 module _ (s : Shape) (text : List ℕ) (r : Given) (xs : List ℕ) where
-  judged-as : (v : Verdict) (a : Said) → r.verdict ≡ v → judged v (given (take r.count r.numbers) (take r.end xs)) ≡ a → saidBy r xs ≡ a
-  judged-as v a e h = ap (λ (x : Verdict). judged x (given (take r.count r.numbers) (take r.end xs))) e ∙ h
+  judged_as : (v : Verdict) (a : Said) → r.verdict ≡ v → judged v (given (take r.count r.numbers) (take r.end xs)) ≡ a → said_by r xs ≡ a
+  judged_as v a e h = ap (λ (x : Verdict). judged x (given (take r.count r.numbers) (take r.end xs))) e ∙ h
 
   module _ (e : r.verdict ≡ verdict.Wrong) where
-    wrong-said : bad ≡ whole s text → saidBy r xs ≡ argued s text
+    wrong_said : bad ≡ whole s text → said_by r xs ≡ argued s text
     unfolding argued
-    wrong-said h = judged-as verdict.Wrong (argued s text) e (ap (enough s.0) h)
+    wrong_said h = judged_as verdict.Wrong (argued s text) e (ap (enough s.0) h)
 
-    pub many-said : (at : ℕ) → at < length text → 3 ≤ r.count → Sofar s text at r.count (take r.count r.numbers) (take r.end xs)
-        → saidBy r xs ≡ argued s text
-    many-said at h k inv = wrong-said (args-many s text at r.count (take r.count r.numbers) (take r.end xs) h k inv)
+    pub many_said : (at : ℕ) → at < length text → 3 ≤ r.count → Sofar s text at r.count (take r.count r.numbers) (take r.end xs)
+        → said_by r xs ≡ argued s text
+    many_said at h k inv = wrong_said (args_many s text at r.count (take r.count r.numbers) (take r.end xs) h k inv)
 
-    pub bad-said : (at stop : ℕ) (a : Arg) (ys : List ℕ) → at < length text → r.count < 3
-        → stop ≡ at + 1 + wordEnd (drop (at + 1) text)
+    pub bad_said : (at stop : ℕ) (a : Arg) (ys : List ℕ) → at < length text → r.count < 3
+        → stop ≡ at + 1 + word_end (drop (at + 1) text)
         → Sofar s text at r.count (take r.count r.numbers) (take r.end ys)
         → reads a xs ≡ behind (take r.end ys) (value_of (kind_at s r.count) (take (stop - (at + 1)) (drop (at + 1) text)))
         → a ≡ arg.None
-        → saidBy r xs ≡ argued s text
-    bad-said at stop a ys h few es inv ea t =
-        wrong-said (args-bad s text at r.count (take r.count r.numbers) (take r.end ys) stop a xs h few es inv ea t)
+        → said_by r xs ≡ argued s text
+    bad_said at stop a ys h few es inv ea t =
+        wrong_said (args_bad s text at r.count (take r.count r.numbers) (take r.end ys) stop a xs h few es inv ea t)
 
   module _ (at : ℕ) (over : length text ≤ at) (few : r.count ≤ 3) (three : length r.numbers ≡ 3)
       (inv : Sofar s text at r.count (take r.count r.numbers) (take r.end xs)) where
@@ -274,20 +274,20 @@ module _ (s : Shape) (text : List ℕ) (r : Given) (xs : List ℕ) where
     read : length (take r.count r.numbers) ≡ r.count
     read = simp length-take (omega arith)
 
-    pub few-said : r.verdict ≡ verdict.Wrong → r.count < s.0 → saidBy r xs ≡ argued s text
-    few-said e h = judged-as verdict.Wrong (argued s text) e (ended true (lt-ltb (length (take r.count r.numbers)) s.0 (omega (arith, read))))
+    pub few_said : r.verdict ≡ verdict.Wrong → r.count < s.0 → said_by r xs ≡ argued s text
+    few_said e h = judged_as verdict.Wrong (argued s text) e (ended true (lt-ltb (length (take r.count r.numbers)) s.0 (omega (arith, read))))
 
-    pub good-said : s.0 ≤ r.count → given (take r.count r.numbers) (take r.end xs) ≡ argued s text
-    good-said h = ended false (le-ltb (length (take r.count r.numbers)) s.0 (omega (arith, read)))
+    pub good_said : s.0 ≤ r.count → given (take r.count r.numbers) (take r.end xs) ≡ argued s text
+    good_said h = ended false (le-ltb (length (take r.count r.numbers)) s.0 (omega (arith, read)))
 
   module _ (longest : ℕ) where
-    pub long-said : r.verdict ≡ verdict.Long → longest < length text → saidBy r xs ≡ saidIn longest s text
-    long-said e h = judged-as verdict.Long (saidIn longest s text) e (sym (too_long longest s text h))
+    pub long_said : r.verdict ≡ verdict.Long → longest < length text → said_by r xs ≡ said_in longest s text
+    long_said e h = judged_as verdict.Long (said_in longest s text) e (sym (too_long_lem longest s text h))
 
-    pub unknown-said : r.verdict ≡ verdict.Unknown → length text ≤ longest → 3 < s.0 → saidBy r xs ≡ saidIn longest s text
-    unfolding saidIn
-    unknown-said e h k = judged-as verdict.Unknown (saidIn longest s text) e (simp (le-ltb longest (length text) h, lt-ltb 3 s.0 k))
+    pub unknown_said : r.verdict ≡ verdict.Unknown → length text ≤ longest → 3 < s.0 → said_by r xs ≡ said_in longest s text
+    unfolding said_in
+    unknown_said e h k = judged_as verdict.Unknown (said_in longest s text) e (simp (le-ltb longest (length text) h, lt-ltb 3 s.0 k))
 
-    pub known-said : length text ≤ longest → s.0 ≤ 3 → saidBy r xs ≡ argued s text → saidBy r xs ≡ saidIn longest s text
-    unfolding saidIn
-    known-said h k e = e ∙ (let z : argued s text ≡ saidIn longest s text = simp (le-ltb longest (length text) h, le-ltb 3 s.0 k) in z)
+    pub known_said : length text ≤ longest → s.0 ≤ 3 → said_by r xs ≡ argued s text → said_by r xs ≡ said_in longest s text
+    unfolding said_in
+    known_said h k e = e ∙ (let z : argued s text ≡ said_in longest s text = simp (le-ltb longest (length text) h, le-ltb 3 s.0 k) in z)

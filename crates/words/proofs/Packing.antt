@@ -8,16 +8,16 @@ use lib.Dec.{eqb}
 use lib.ListN.{length, drop, get_or, drop_of_length-le}
 use lib.Seq.{drop-cons}
 use borrow.Author.Tests.{lt-ltb, le-ltb}
-use Rattle.words.specs.Pack.{pack, packedOf, all_bytes, readable}
+use Rattle.words.specs.Pack.{pack, packed_of, all_bytes, readable}
 
-pub pack-some : (w : List ℕ) → 1 ≤ pack w
-pack-some [] = omega arith
-pack-some (b ∷ r) = omega (arith, pack-some r)
+pub pack_some : (w : List ℕ) → 1 ≤ pack w
+pack_some [] = omega arith
+pack_some (b ∷ r) = omega (arith, pack_some r)
 
-pack-drop : (w : List ℕ) (i : ℕ) → pack (drop i w) ≤ pack w
-pack-drop w zero = omega arith
-pack-drop [] (suc i) = omega arith
-pack-drop (b ∷ r) (suc i) = omega (arith, pack-drop r i)
+pack_drop : (w : List ℕ) (i : ℕ) → pack (drop i w) ≤ pack w
+pack_drop w zero = omega arith
+pack_drop [] (suc i) = omega arith
+pack_drop (b ∷ r) (suc i) = omega (arith, pack_drop r i)
 
 -- what is left of a list one place further in front
 one_more : (w : List ℕ) (i : ℕ) → 0 < i → i ≤ length w → drop (i - 1) w ≡ get_or w (i - 1) 0 ∷ drop i w
@@ -26,39 +26,39 @@ one_more w i h k =
     let e : suc (i - 1) ≡ i = omega arith in
     drop-cons w (i - 1) 0 l ∙ ap (λ (j : ℕ). get_or w (i - 1) 0 ∷ drop j w) e
 
-pub pack-start : (w : List ℕ) → 1 ≡ pack (drop (length w) w)
-pack-start w = sym (ap pack (drop_of_length-le w (let h : length w ≤ length w = omega arith in h)))
+pub pack_start : (w : List ℕ) → 1 ≡ pack (drop (length w) w)
+pack_start w = sym (ap pack (drop_of_length-le w (let h : length w ≤ length w = omega arith in h)))
 
-pub bytes-start : (w : List ℕ) → all_bytes (drop (length w) w) ≡ true
-bytes-start w = ap all_bytes (drop_of_length-le w (let h : length w ≤ length w = omega arith in h))
+pub bytes_start : (w : List ℕ) → all_bytes (drop (length w) w) ≡ true
+bytes_start w = ap all_bytes (drop_of_length-le w (let h : length w ≤ length w = omega arith in h))
 
 module _ (w : List ℕ) (i k : ℕ) (some : 0 < i) (few : i ≤ length w) (inv : k ≡ pack (drop i w)) where
-  pub pack-turn : (x : ℕ) → x ≡ get_or w (i - 1) 0 → k * 256 + x ≡ pack (drop (i - 1) w)
-  pack-turn x b = let e : k * 256 + x ≡ get_or w (i - 1) 0 + 256 * pack (drop i w) = omega arith in e ∙ sym (ap pack (one_more w i some few))
+  pub pack_turn : (x : ℕ) → x ≡ get_or w (i - 1) 0 → k * 256 + x ≡ pack (drop (i - 1) w)
+  pack_turn x b = let e : k * 256 + x ≡ get_or w (i - 1) 0 + 256 * pack (drop i w) = omega arith in e ∙ sym (ap pack (one_more w i some few))
 
-  pub bytes-turn : (x : ℕ) → x ≡ get_or w (i - 1) 0 → x < 256 → all_bytes (drop i w) ≡ true → all_bytes (drop (i - 1) w) ≡ true
-  bytes-turn x b h a = rw (one_more w i some few, lt-ltb (get_or w (i - 1) 0) 256 (omega arith)) a
+  pub bytes_turn : (x : ℕ) → x ≡ get_or w (i - 1) 0 → x < 256 → all_bytes (drop i w) ≡ true → all_bytes (drop (i - 1) w) ≡ true
+  bytes_turn x b h a = rw (one_more w i some few, lt-ltb (get_or w (i - 1) 0) 256 (omega arith)) a
 
-  pub pack-large : 0x100_0000_0000_0000 ≤ k → 0 ≡ packedOf w
-  unfolding packedOf
-  pack-large h =
+  pub pack_large : 0x100_0000_0000_0000 ≤ k → 0 ≡ packed_of w
+  unfolding packed_of
+  pack_large h =
       let e : pack (drop (i - 1) w) ≡ get_or w (i - 1) 0 + 256 * pack (drop i w) = ap pack (one_more w i some few) in
-      sym (ap (λ (o : Bool). cond o (pack w) 0) (le-ltb (pack w) 0x1_0000_0000_0000_0000 (omega (arith, pack-drop w (i - 1)))))
+      sym (ap (λ (o : Bool). cond o (pack w) 0) (le-ltb (pack w) 0x1_0000_0000_0000_0000 (omega (arith, pack_drop w (i - 1)))))
 
-pub readable-none : (w : List ℕ) → readable w 0 ≡ true
+pub readable_none : (w : List ℕ) → readable w 0 ≡ true
 unfolding readable
-readable-none w = refl
+readable_none w = refl
 
-pub pack-end : (w : List ℕ) (i k : ℕ) → i ≤ 0 → k < 0x1_0000_0000_0000_0000 → k ≡ pack (drop i w) → k ≡ packedOf w
-unfolding packedOf
-pack-end w i k z h inv =
+pub pack_end : (w : List ℕ) (i k : ℕ) → i ≤ 0 → k < 0x1_0000_0000_0000_0000 → k ≡ pack (drop i w) → k ≡ packed_of w
+unfolding packed_of
+pack_end w i k z h inv =
     let e : i ≡ 0 = omega arith in
     let p : k ≡ pack w = inv ∙ ap (λ (j : ℕ). pack (drop j w)) e in
     p ∙ sym (ap (λ (o : Bool). cond o (pack w) 0) (lt-ltb (pack w) 0x1_0000_0000_0000_0000 (omega arith)))
 
-pub readable-end : (w : List ℕ) (i k : ℕ) → i ≤ 0 → all_bytes (drop i w) ≡ true → readable w k ≡ true
+pub readable_end : (w : List ℕ) (i k : ℕ) → i ≤ 0 → all_bytes (drop i w) ≡ true → readable w k ≡ true
 unfolding readable
-readable-end w i k z a = both (eqb k 0) (all_bytes w) (let e : i ≡ 0 = omega arith in subst (λ (j : ℕ). all_bytes (drop j w) ≡ true) e a)
+readable_end w i k z a = both (eqb k 0) (all_bytes w) (let e : i ≡ 0 = omega arith in subst (λ (j : ℕ). all_bytes (drop j w) ≡ true) e a)
   where
     both : (o b : Bool) → b ≡ true → cond o true b ≡ true
     both true b h = refl

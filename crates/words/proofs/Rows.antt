@@ -7,9 +7,9 @@ use native.Mathlib.Omega.{arith}
 use lib.Dec.{ltb, eqb}
 use borrow.Author.Tests.{ltb-true, eq-eqb, ne_eqb, eqb-true}
 use Rattle.basics.proofs.Choice.{and_left, and_right, by}
-use Rattle.words.specs.Pack.{pack, packedOf, all_bytes, readable}
+use Rattle.words.specs.Pack.{pack, packed_of, all_bytes, readable}
 use Rattle.words.specs.Rows.{Named, asks, same_list, row_in}
-use Rattle.words.proofs.Packing.{pack-some}
+use Rattle.words.proofs.Packing.{pack_some}
 
 infixr 4 ◌and◌
 pub ◌and◌ : {A B : Type 0} → A → B → A × B
@@ -38,51 +38,51 @@ same_by w l false false e f g = refl
 
 -- ---- two words of bytes with one number are one word
 
-pack-same : (w l : List ℕ) → all_bytes w ≡ true → all_bytes l ≡ true → pack w ≡ pack l → w ≡ l
-pack-same [] [] a b e = refl
-pack-same [] (y ∷ ys) a b e = absurd (let z : 1 ≡ y + 256 * pack ys = e in omega (arith, pack-some ys))
-pack-same (x ∷ xs) [] a b e = absurd (let z : x + 256 * pack xs ≡ 1 = e in omega (arith, pack-some xs))
-pack-same (x ∷ xs) (y ∷ ys) a b e =
+pack_same : (w l : List ℕ) → all_bytes w ≡ true → all_bytes l ≡ true → pack w ≡ pack l → w ≡ l
+pack_same [] [] a b e = refl
+pack_same [] (y ∷ ys) a b e = absurd (let z : 1 ≡ y + 256 * pack ys = e in omega (arith, pack_some ys))
+pack_same (x ∷ xs) [] a b e = absurd (let z : x + 256 * pack xs ≡ 1 = e in omega (arith, pack_some xs))
+pack_same (x ∷ xs) (y ∷ ys) a b e =
     let z : x + 256 * pack xs ≡ y + 256 * pack ys = e in
     let u : x < 256 = ltb-true x 256 (and_left (ltb x 256) (all_bytes xs) a) in
     let v : y < 256 = ltb-true y 256 (and_left (ltb y 256) (all_bytes ys) b) in
     let p : x ≡ y = omega arith in
     let f : pack xs ≡ pack ys = omega arith in
-    let q : xs ≡ ys = pack-same xs ys (and_right (ltb x 256) (all_bytes xs) a) (and_right (ltb y 256) (all_bytes ys) b) f in
+    let q : xs ≡ ys = pack_same xs ys (and_right (ltb x 256) (all_bytes xs) a) (and_right (ltb y 256) (all_bytes ys) b) f in
     cc
 
-abbrev isWord : List ℕ → Bool
-isWord l = ltb (pack l) 0x1_0000_0000_0000_0000 && all_bytes l
+abbrev is_word : List ℕ → Bool
+is_word l = ltb (pack l) 0x1_0000_0000_0000_0000 && all_bytes l
 
-module _ (w : List ℕ) (k : ℕ) (number : k ≡ packedOf w) (bytes : readable w k ≡ true) where
+module _ (w : List ℕ) (k : ℕ) (number : k ≡ packed_of w) (bytes : readable w k ≡ true) where
   -- a word of the table has the number k just where it is w
-  by_number : (l : List ℕ) → isWord l ≡ true → eqb k (pack l) ≡ same_list w l
-  unfolding packedOf readable
+  by_number : (l : List ℕ) → is_word l ≡ true → eqb k (pack l) ≡ same_list w l
+  unfolding packed_of readable
   by_number l h = same_by w l (eqb k (pack l)) (same_list w l) refl same number_of
     where
       number_of : w ≡ l → eqb k (pack l) ≡ true
       number_of e =
           let t : ltb (pack l) 0x1_0000_0000_0000_0000 ≡ true = and_left (ltb (pack l) 0x1_0000_0000_0000_0000) (all_bytes l) h in
-          eq-eqb k (pack l) (number ∙ ap packedOf e ∙ ap (λ (o : Bool). cond o (pack l) 0) t)
+          eq-eqb k (pack l) (number ∙ ap packed_of e ∙ ap (λ (o : Bool). cond o (pack l) 0) t)
 
       packed : (o : Bool) → cond o (pack w) 0 ≡ pack l → pack w ≡ pack l
       packed true e = e
-      packed false e = absurd (let z : ◌≡◌ {A = ℕ} 0 (pack l) = e in omega (arith, pack-some l))
+      packed false e = absurd (let z : ◌≡◌ {A = ℕ} 0 (pack l) = e in omega (arith, pack_some l))
 
       same : eqb k (pack l) ≡ true → w ≡ l
       same t =
           let e : k ≡ pack l = eqb-true k (pack l) t in
-          let z : eqb k 0 ≡ false = ne_eqb k 0 (λ n. omega (arith, pack-some l)) in
+          let z : eqb k 0 ≡ false = ne_eqb k 0 (λ n. omega (arith, pack_some l)) in
           let a : all_bytes w ≡ true = sym (ap (λ (o : Bool). cond o true (all_bytes w)) z) ∙ bytes in
-          pack-same w l a (and_right (ltb (pack l) 0x1_0000_0000_0000_0000) (all_bytes l) h)
+          pack_same w l a (and_right (ltb (pack l) 0x1_0000_0000_0000_0000) (all_bytes l) h)
           (packed (ltb (pack w) 0x1_0000_0000_0000_0000) (sym number ∙ e))
 
 -- ---- the table by numbers, as a `match` goes
 
 module _ {R : Type 0} (other : R) where
-  abbrev pub areWords : List (Named R) → Bool
-  areWords [] = true
-  areWords (asks l r ∷ ns) = isWord l && areWords ns
+  abbrev pub are_words : List (Named R) → Bool
+  are_words [] = true
+  are_words (asks l r ∷ ns) = is_word l && are_words ns
 
   abbrev pub row_at : List (Named R) → ℕ → R
   row_at [] k = other
@@ -93,28 +93,28 @@ module _ {R : Type 0} (other : R) where
   Others A k [] = A
   Others A k (asks l r ∷ ns) = Others (A × (k ≡ pack l → ⊥)) k ns
 
-  others-in : (A : Type 0) (k : ℕ) (ns : List (Named R)) → Others A k ns → A
-  others-in A k [] o = o
-  others-in A k (asks l r ∷ ns) o = (others-in (A × (k ≡ pack l → ⊥)) k ns o).0
+  others_in : (A : Type 0) (k : ℕ) (ns : List (Named R)) → Others A k ns → A
+  others_in A k [] o = o
+  others_in A k (asks l r ∷ ns) o = (others_in (A × (k ≡ pack l → ⊥)) k ns o).0
 
-  others-none : (A : Type 0) (k : ℕ) (ns : List (Named R)) → Others A k ns → other ≡ row_at ns k
-  others-none A k [] o = refl
-  others-none A k (asks l r ∷ ns) o =
-      others-none (A × (k ≡ pack l → ⊥)) k ns o
-      ∙ sym (ap (λ (b : Bool). cond b r (row_at ns k)) (ne_eqb k (pack l) (others-in (A × (k ≡ pack l → ⊥)) k ns o).1))
+  others_none : (A : Type 0) (k : ℕ) (ns : List (Named R)) → Others A k ns → other ≡ row_at ns k
+  others_none A k [] o = refl
+  others_none A k (asks l r ∷ ns) o =
+      others_none (A × (k ≡ pack l → ⊥)) k ns o
+      ∙ sym (ap (λ (b : Bool). cond b r (row_at ns k)) (ne_eqb k (pack l) (others_in (A × (k ≡ pack l → ⊥)) k ns o).1))
 
-  module _ (w : List ℕ) (k : ℕ) (number : k ≡ packedOf w) (bytes : readable w k ≡ true) where
-    row_by : (ns : List (Named R)) → areWords ns ≡ true → row_at ns k ≡ row_in other ns w
+  module _ (w : List ℕ) (k : ℕ) (number : k ≡ packed_of w) (bytes : readable w k ≡ true) where
+    row_by : (ns : List (Named R)) → are_words ns ≡ true → row_at ns k ≡ row_in other ns w
     row_by [] h = refl
     row_by (asks l r ∷ ns) h =
-        ap (λ (b : Bool). cond b r (row_at ns k)) (by_number w k number bytes l (and_left (isWord l) (areWords ns) h))
-        ∙ ap (λ (x : R). cond (same_list w l) r x) (row_by ns (and_right (isWord l) (areWords ns) h))
+        ap (λ (b : Bool). cond b r (row_at ns k)) (by_number w k number bytes l (and_left (is_word l) (are_words ns) h))
+        ∙ ap (λ (x : R). cond (same_list w l) r x) (row_by ns (and_right (is_word l) (are_words ns) h))
 
-    pub known_in : (ns : List (Named R)) → areWords ns ≡ true → (n : ℕ) (r : R) → k ≡ n → r ≡ row_at ns n → r ≡ row_in other ns w
+    pub known_in : (ns : List (Named R)) → are_words ns ≡ true → (n : ℕ) (r : R) → k ≡ n → r ≡ row_at ns n → r ≡ row_in other ns w
     known_in ns a n r e h = h ∙ ap (row_at ns) (sym e) ∙ row_by ns a
 
-    pub unknown-in : (ns : List (Named R)) → areWords ns ≡ true → Others Unit k ns → other ≡ row_in other ns w
-    unknown-in ns a o = others-none Unit k ns o ∙ row_by ns a
+    pub unknown_in : (ns : List (Named R)) → are_words ns ≡ true → Others Unit k ns → other ≡ row_in other ns w
+    unknown_in ns a o = others_none Unit k ns o ∙ row_by ns a
 
   -- what every row has, the row of any word has
   abbrev pub Each : (R → Type 0) → List (Named R) → Type 0

@@ -1,8 +1,8 @@
 -- The arguments of a line. Assumes nothing.
 use Rattle.std.specs.Prelude.{ℕ, ◌+◌, ◌≤◌, ◌≡◌, Bool, cond, List, [], ◌∷◌, ◌++◌, ltb, eqb, length, take, get_or}
 use Rattle.words.specs.Text.{text}
-use Rattle.words.specs.Pack.{pack, packedOf}
-use Rattle.words.specs.Word.{first_of, rest_of, goesOn, Value, none, value, number_in, bytesIn}
+use Rattle.words.specs.Pack.{pack, packed_of}
+use Rattle.words.specs.Word.{first_of, rest_of, goes_on, Value, none, value, number_in, bytes_in}
 use Rattle.words.specs.declared.args.Kind.{Kind}
 use Rattle.words.specs.declared.args.Kind.TheVariants as kind
 use Rattle.words.specs.declared.args.Shape.{Shape}
@@ -14,19 +14,19 @@ use Rattle.words.specs.declared.args.Given.{Given}
 
 -- one of two words, which are known by their numbers
 unfoldable pub either_of : ℕ → ℕ → List ℕ → Value
-either_of one other w = cond (eqb (packedOf w) one) (value 0 []) (cond (eqb (packedOf w) other) (value 1 []) none)
+either_of one other w = cond (eqb (packed_of w) one) (value 0 []) (cond (eqb (packed_of w) other) (value 1 []) none)
 
 -- "bytes in pairs of hex digits, or `-` for none"
-unfoldable pub dashedIn : ℕ → List ℕ → Value
-dashedIn most w = cond (eqb (packedOf w) (pack (text "-"))) (value 0 []) (bytesIn most w)
+unfoldable pub dashed_in : ℕ → List ℕ → Value
+dashed_in most w = cond (eqb (packed_of w) (pack (text "-"))) (value 0 []) (bytes_in most w)
 
 -- what a word is as an argument of a kind
 unfoldable pub value_of : Kind → List ℕ → Value
 value_of kind.Nothing w = none
 value_of (kind.Number base least digits most) w = number_in base least digits most w
 value_of (kind.Either one other) w = either_of one other w
-value_of (kind.Hex most) w = bytesIn most w
-value_of (kind.Dashed most) w = dashedIn most w
+value_of (kind.Hex most) w = bytes_in most w
+value_of (kind.Dashed most) w = dashed_in most w
 
 -- ---- all arguments: their numbers, and their bytes one behind the other
 
@@ -42,13 +42,13 @@ join (value n bs) (good ns cs) = good (n ∷ ns) (bs ++ cs)
 -- `on` says whether a space and w follow
 unfoldable pub args_of : List Kind → Bool → List ℕ → Args
 args_of [] on w = cond on bad (good [] [])
-args_of (k ∷ ks) on w = cond on (join (value_of k (first_of w)) (args_of ks (goesOn w) (rest_of w))) (good [] [])
+args_of (k ∷ ks) on w = cond on (join (value_of k (first_of w)) (args_of ks (goes_on w) (rest_of w))) (good [] [])
 
-abbrev pub kindsOf : Shape → List Kind
-kindsOf s = s.1 ∷ s.2 ∷ s.3 ∷ []
+abbrev pub kinds_of : Shape → List Kind
+kinds_of s = s.1 ∷ s.2 ∷ s.3 ∷ []
 
 abbrev pub kind_at : Shape → ℕ → Kind
-kind_at s i = get_or (kindsOf s) i kind.Nothing
+kind_at s i = get_or (kinds_of s) i kind.Nothing
 
 -- ---- a whole line
 
@@ -64,11 +64,11 @@ enough least bad = wrong
 enough least (good ns bs) = cond (ltb (length ns) least) wrong (given ns bs)
 
 unfoldable pub argued : Shape → List ℕ → Said
-argued s w = enough s.0 (args_of (kindsOf s) (goesOn w) (rest_of w))
+argued s w = enough s.0 (args_of (kinds_of s) (goes_on w) (rest_of w))
 
 -- a line of at most so many characters; a command that asks for more than three arguments is none
-unfoldable pub saidIn : ℕ → Shape → List ℕ → Said
-saidIn longest s w = cond (ltb longest (length w)) long (cond (ltb 3 s.0) unknown (argued s w))
+unfoldable pub said_in : ℕ → Shape → List ℕ → Said
+said_in longest s w = cond (ltb longest (length w)) long (cond (ltb 3 s.0) unknown (argued s w))
 
 -- ---- what the code hands out, and the buffer of the bytes
 
@@ -78,8 +78,8 @@ judged verdict.Unknown s = unknown
 judged verdict.Wrong s = wrong
 judged verdict.Long s = long
 
-abbrev pub saidBy : Given → List ℕ → Said
-saidBy r xs = judged r.verdict (given (take r.count r.numbers) (take r.end xs))
+abbrev pub said_by : Given → List ℕ → Said
+said_by r xs = judged r.verdict (given (take r.count r.numbers) (take r.end xs))
 
 -- the largest number of a kind, and how many bytes it may have
 abbrev pub most_of : Kind → ℕ
@@ -89,16 +89,16 @@ most_of (kind.Either one other) = 1
 most_of (kind.Hex most) = most
 most_of (kind.Dashed most) = most
 
-abbrev pub roomOf : Kind → ℕ
-roomOf kind.Nothing = 0
-roomOf (kind.Number base least digits most) = 0
-roomOf (kind.Either one other) = 0
-roomOf (kind.Hex most) = most
-roomOf (kind.Dashed most) = most
+abbrev pub room_of : Kind → ℕ
+room_of kind.Nothing = 0
+room_of (kind.Number base least digits most) = 0
+room_of (kind.Either one other) = 0
+room_of (kind.Hex most) = most
+room_of (kind.Dashed most) = most
 
 abbrev pub room_for : List Kind → ℕ
 room_for [] = 0
-room_for (k ∷ ks) = roomOf k + room_for ks
+room_for (k ∷ ks) = room_of k + room_for ks
 
 -- no number is larger than its kind allows, and those behind the first c are 0
 pub record Bounded (s : Shape) (c : ℕ) (ns : List ℕ) : Type 0 where
@@ -107,4 +107,4 @@ pub record Bounded (s : Shape) (c : ℕ) (ns : List ℕ) : Type 0 where
 
 pub record GivenFits (s : Shape) (r : Given) : Type 0 where
   pub numbers : Bounded s r.count r.numbers
-  pub end : r.end ≤ room_for (kindsOf s)
+  pub end : r.end ≤ room_for (kinds_of s)

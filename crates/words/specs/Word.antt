@@ -7,17 +7,17 @@ use Rattle.words.specs.declared.word.Arg.TheVariants as arg
 -- ---- "Words are separated by exactly one space"
 
 -- the length of the first word: up to the first space, which is 32
-abbrev pub wordEnd : List ℕ → ℕ
-wordEnd w = index_of 32 w
+abbrev pub word_end : List ℕ → ℕ
+word_end w = index_of 32 w
 
 abbrev pub first_of : List ℕ → List ℕ
-first_of w = take (wordEnd w) w
+first_of w = take (word_end w) w
 
 abbrev pub rest_of : List ℕ → List ℕ
-rest_of w = drop (wordEnd w + 1) w
+rest_of w = drop (word_end w + 1) w
 
-abbrev pub goesOn : List ℕ → Bool
-goesOn w = ltb (wordEnd w) (length w)
+abbrev pub goes_on : List ℕ → Bool
+goes_on w = ltb (word_end w) (length w)
 
 -- ---- a word as an argument: its number with no bytes, or its bytes with their count
 
@@ -26,8 +26,8 @@ pub data Value : Type 0 where
   value : ℕ → List ℕ → Value
 
 -- the value of a digit of either case, 16 for any other byte
-unfoldable pub digitOf : ℕ → ℕ
-digitOf b =
+unfoldable pub digit_of : ℕ → ℕ
+digit_of b =
     cond (ltb b 48) 16
     (cond (ltb b 58) (b - 48)
     (cond (ltb b 65) 16
@@ -36,35 +36,35 @@ digitOf b =
     (cond (ltb b 103) (b - 87) 16)))))
 
 -- a number n with one more digit behind it; a byte that is no digit makes it too large for any limit
-unfoldable pub withDigit : ℕ → ℕ → ℕ → ℕ
-withDigit base n b = cond (ltb (digitOf b) base) (n * base + digitOf b) 4294967296
+unfoldable pub with_digit : ℕ → ℕ → ℕ → ℕ
+with_digit base n b = cond (ltb (digit_of b) base) (n * base + digit_of b) 4294967296
 
-unfoldable pub valueFrom : ℕ → ℕ → List ℕ → ℕ
-valueFrom base n [] = n
-valueFrom base n (b ∷ r) = valueFrom base (withDigit base n b) r
+unfoldable pub value_from : ℕ → ℕ → List ℕ → ℕ
+value_from base n [] = n
+value_from base n (b ∷ r) = value_from base (with_digit base n b) r
 
 -- a number of at least `least` and at most `digits` digits, and at most `most`
 abbrev pub number_in : ℕ → ℕ → ℕ → ℕ → List ℕ → Value
 number_in base least digits most w =
-    cond (leb least (length w) && leb (length w) digits && leb (valueFrom base 0 w) most) (value (valueFrom base 0 w) []) none
+    cond (leb least (length w) && leb (length w) digits && leb (value_from base 0 w) most) (value (value_from base 0 w) []) none
 
 -- "Bytes .. are pairs of hex digits, either case in": the byte of two digits, 256 where one is none
-unfoldable pub hexPair : ℕ → ℕ → ℕ
-hexPair h l = cond (ltb 15 (digitOf h)) 256 (cond (ltb 15 (digitOf l)) 256 (digitOf h * 16 + digitOf l))
+unfoldable pub hex_pair : ℕ → ℕ → ℕ
+hex_pair h l = cond (ltb 15 (digit_of h)) 256 (cond (ltb 15 (digit_of l)) 256 (digit_of h * 16 + digit_of l))
 
-abbrev pub allPairs : List ℕ → Bool
-allPairs [] = true
-allPairs (h ∷ []) = false
-allPairs (h ∷ l ∷ r) = leb (hexPair h l) 255 && allPairs r
+abbrev pub all_pairs : List ℕ → Bool
+all_pairs [] = true
+all_pairs (h ∷ []) = false
+all_pairs (h ∷ l ∷ r) = leb (hex_pair h l) 255 && all_pairs r
 
-abbrev pub pairsOf : List ℕ → List ℕ
-pairsOf [] = []
-pairsOf (h ∷ []) = []
-pairsOf (h ∷ l ∷ r) = hexPair h l ∷ pairsOf r
+abbrev pub pairs_of : List ℕ → List ℕ
+pairs_of [] = []
+pairs_of (h ∷ []) = []
+pairs_of (h ∷ l ∷ r) = hex_pair h l ∷ pairs_of r
 
 -- one byte or more, and at most `most`
-abbrev pub bytesIn : ℕ → List ℕ → Value
-bytesIn most w = cond (ltb 0 (length w) && leb (length w) (2 * most) && allPairs w) (value (length (pairsOf w)) (pairsOf w)) none
+abbrev pub bytes_in : ℕ → List ℕ → Value
+bytes_in most w = cond (ltb 0 (length w) && leb (length w) (2 * most) && all_pairs w) (value (length (pairs_of w)) (pairs_of w)) none
 
 -- ---- what the code hands out, and the buffer of the bytes
 

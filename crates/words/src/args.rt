@@ -1,7 +1,7 @@
 // The arguments of a line: what kinds there are, how many a command takes, and the one loop that reads them.
 ghost use Rattle.std.specs.Prelude.{◌≡◌, ◌∷◌, [], ◌+◌, ◌-◌, ◌≤◌, ◌<◌, length, take, drop};
 ghost use Rattle.words.specs.Word.{behind, ends_at, reads, ArgFits};
-ghost use Rattle.words.specs.Args.{either_of, dashedIn, value_of, most_of, roomOf, room_for, kindsOf, kind_at, argued, saidIn, saidBy, GivenFits};
+ghost use Rattle.words.specs.Args.{either_of, dashed_in, value_of, most_of, room_of, room_for, kinds_of, kind_at, argued, said_in, said_by, GivenFits};
 
 use crate::word::{Arg, bytes_in, number_in, packed, word_end};
 
@@ -78,7 +78,7 @@ fn either_in(word: &[u8], one: u64, other: u64, at: usize) -> Arg
 fn dashed_in(word: &[u8], bytes: &mut [u8], at: usize, most: u32) -> Arg
     requires { at + most ≤ length bytes.old }
     ensures arg_fits { ArgFits most (at + most) result }
-    ensures bytes_after { reads result bytes.new ≡ behind (take at bytes.old) (dashedIn most word.now) }
+    ensures bytes_after { reads result bytes.new ≡ behind (take at bytes.old) (dashed_in most word.now) }
 {
     let k = packed(word);
     if k == DASH {
@@ -89,8 +89,8 @@ fn dashed_in(word: &[u8], bytes: &mut [u8], at: usize, most: u32) -> Arg
 
 // The argument that a word is. Its bytes are laid at `at`.
 fn arg_of(kind: Kind, word: &[u8], bytes: &mut [u8], at: usize) -> Arg
-    requires { at + roomOf kind ≤ length bytes.old }
-    ensures arg_fits { ArgFits (most_of kind) (at + roomOf kind) result }
+    requires { at + room_of kind ≤ length bytes.old }
+    ensures arg_fits { ArgFits (most_of kind) (at + room_of kind) result }
     ensures bytes_after { reads result bytes.new ≡ behind (take at bytes.old) (value_of kind word.now) }
 {
     match kind {
@@ -135,8 +135,8 @@ fn arg_at(
     end: usize,
 ) -> Arg
     requires i_bound { (i < 3) × (start ≤ stop) × (stop ≤ length text.now) }
-    requires i_in_bounds { end + roomOf (kind_at shape i) ≤ length bytes.old }
-    ensures arg_fits { ArgFits (most_of (kind_at shape i)) (end + roomOf (kind_at shape i)) result }
+    requires i_in_bounds { end + room_of (kind_at shape i) ≤ length bytes.old }
+    ensures arg_fits { ArgFits (most_of (kind_at shape i)) (end + room_of (kind_at shape i)) result }
     ensures bytes_after { reads result bytes.new ≡ behind (take end bytes.old) (value_of (kind_at shape i) (take (stop - start) (drop start text.now))) }
 {
     let kind = kind_at(shape, i);
@@ -145,9 +145,9 @@ fn arg_at(
 
 // The arguments of a line of a command; wrong until all of them are read.
 fn gather(shape: Shape, text: &[u8], bytes: &mut [u8]) -> Given
-    requires { room_for (kindsOf shape) ≤ length bytes.old }
+    requires { room_for (kinds_of shape) ≤ length bytes.old }
     ensures given_fits { GivenFits shape result }
-    ensures bytes_after { saidBy result bytes.new ≡ argued shape text.now }
+    ensures bytes_after { said_by result bytes.new ≡ argued shape text.now }
 {
     let mut given = Given {
         verdict: Verdict::Wrong,
@@ -185,9 +185,9 @@ fn gather(shape: Shape, text: &[u8], bytes: &mut [u8]) -> Given
 
 // The arguments of a line of at most `longest` characters whose first word has this shape.
 pub fn args_of(shape: Shape, text: &[u8], longest: usize, bytes: &mut [u8]) -> Given
-    requires { room_for (kindsOf shape) ≤ length bytes.old }
+    requires { room_for (kinds_of shape) ≤ length bytes.old }
     ensures given_fits { GivenFits shape result }
-    ensures bytes_after { saidBy result bytes.new ≡ saidIn longest shape text.now }
+    ensures bytes_after { said_by result bytes.new ≡ said_in longest shape text.now }
 {
     if text.len() > longest {
         return none(Verdict::Long);

@@ -1,7 +1,7 @@
 // One word: its end, its number for a `match`, and the number or the bytes that it is as an argument.
 ghost use Rattle.std.specs.Prelude.{◌≡◌, true, ◌+◌, ◌≤◌, ◌<◌, length, take, drop};
-ghost use Rattle.words.specs.Pack.{packedOf, readable};
-ghost use Rattle.words.specs.Word.{wordEnd, digitOf, withDigit, number_in, hexPair, bytesIn, behind, ends_at, reads, ArgFits};
+ghost use Rattle.words.specs.Pack.{packed_of, readable};
+ghost use Rattle.words.specs.Word.{word_end, digit_of, with_digit, number_in, hex_pair, bytes_in, behind, ends_at, reads, ArgFits};
 
 use basics::{to_u16, to_u64};
 use bytes::scan::find;
@@ -16,14 +16,14 @@ pub enum Arg {
 // The end of the word that begins at `start`: the first space, or the end of the text.
 pub fn word_end(text: &[u8], start: usize) -> usize
     requires { start ≤ length text.now }
-    ensures { (start ≤ result) × (result ≤ length text.now) × (result ≡ start + wordEnd (drop start text.now)) }
+    ensures { (start ≤ result) × (result ≤ length text.now) × (result ≡ start + word_end (drop start text.now)) }
 {
     find(text, start, text.len(), b' ')
 }
 
 // A word of at most seven letters as a number, its first letter lowest and a 1 above its last; 0 for a longer one.
 pub fn packed(word: &[u8]) -> u64
-    ensures value { result ≡ packedOf word.now }
+    ensures value { result ≡ packed_of word.now }
     ensures result_value { readable word.now result ≡ true }
 {
     let mut k: u64 = 1;
@@ -40,7 +40,7 @@ pub fn packed(word: &[u8]) -> u64
 
 // The value of a digit of either case; 16 for any other byte. `0` is 48, `A` 65 and `a` 97.
 fn digit(b: u8) -> u8
-    ensures { (result ≤ 16) × (result ≡ digitOf b) }
+    ensures { (result ≤ 16) × (result ≡ digit_of b) }
 {
     if b < 48 {
         return 16;
@@ -66,7 +66,7 @@ fn digit(b: u8) -> u8
 // A number with the digit that a byte is behind it; 4294967296, which is more than any limit, where the byte is no digit.
 fn with_digit(n: u64, base: u8, b: u8) -> u64
     requires { n < 4294967296 }
-    ensures { result ≡ withDigit base n b }
+    ensures { result ≡ with_digit base n b }
 {
     let d = digit(b);
     if d >= base {
@@ -100,7 +100,7 @@ pub fn number_in(word: &[u8], base: u8, least: usize, digits: usize, most: u32, 
 
 // The byte that two hex digits make, or 256.
 fn hex_pair(high: u8, low: u8) -> u16
-    ensures { (result ≤ 256) × (result ≡ hexPair high low) }
+    ensures { (result ≤ 256) × (result ≡ hex_pair high low) }
 {
     let h = digit(high);
     let l = digit(low);
@@ -117,7 +117,7 @@ fn hex_pair(high: u8, low: u8) -> u16
 pub fn bytes_in(word: &[u8], bytes: &mut [u8], at: usize, most: u32) -> Arg
     requires { at + most ≤ length bytes.old }
     ensures arg_fits { ArgFits most (at + most) result }
-    ensures bytes_after { reads result bytes.new ≡ behind (take at bytes.old) (bytesIn most word.now) }
+    ensures bytes_after { reads result bytes.new ≡ behind (take at bytes.old) (bytes_in most word.now) }
 {
     if word.len() == 0 {
         return Arg::None;

@@ -4,39 +4,39 @@ use Rattle.screen.specs.Screen.{seen, answer_of}
 use Rattle.screen.specs.declared.call.ScreenAnswer.{ScreenAnswer}
 use Rattle.logger.specs.Writer.{Written, written}
 use Rattle.words.specs.Args.{Said, given, unknown, wrong, long}
-use Rattle.laying.specs.Parts.{lineText}
+use Rattle.laying.specs.Parts.{line_text}
 use Rattle.input.specs.Lines.{Program}
 use Rattle.jobs.specs.declared.read.Verb.{Verb}
 use Rattle.jobs.specs.declared.read.Verb.TheVariants as verb
-use Rattle.jobs.specs.Said.{verbOf, said_of}
-use Rattle.jobs.specs.Told.{Told, live, old, ahead, area, refused, help, noSuchCommand, notSoWritten, tooLong, parts_of}
+use Rattle.jobs.specs.Said.{verb_of, said_of}
+use Rattle.jobs.specs.Told.{Told, live, old, ahead, area, refused, help, no_such_command, not_so_written, too_long, parts_of}
 
 -- "`live WATTS`, `old WATTS`, `ahead WATTS`, or `refused K`"
-unfoldable pub verdictTold : ℕ → ℕ → Told
-verdictTold verdict watts = cond (eqb verdict 1) (live watts) (cond (eqb verdict 2) (old watts) (ahead watts))
+unfoldable pub verdict_told : ℕ → ℕ → Told
+verdict_told verdict watts = cond (eqb verdict 1) (live watts) (cond (eqb verdict 2) (old watts) (ahead watts))
 
-unfoldable pub screenTold : ScreenAnswer → Told
-screenTold a = cond (eqb a.refused 0) (verdictTold a.verdict a.watts) (refused a.refused)
+unfoldable pub screen_told : ScreenAnswer → Told
+screen_told a = cond (eqb a.refused 0) (verdict_told a.verdict a.watts) (refused a.refused)
 
 -- "`area HEX`, or `refused K`"
-unfoldable pub writtenTold : Written → Told
-writtenTold w = cond (eqb w.refused 0) (area w.area) (refused w.refused)
+unfoldable pub written_told : Written → Told
+written_told w = cond (eqb w.refused 0) (area w.area) (refused w.refused)
 
 -- each line of the table: n and m are its first two numbers, and xs are its bytes
 abbrev pub worked : Verb → ℕ → ℕ → List ℕ → Told
 -- "what the screen says of the image at that present second"
-worked verb.Screen n m xs = screenTold (answer_of (seen xs n))
+worked verb.Screen n m xs = screen_told (answer_of (seen xs n))
 -- "the area with the reading written into it"
-worked verb.Reading n m xs = writtenTold (written n m xs)
+worked verb.Reading n m xs = written_told (written n m xs)
 worked verb.Help n m xs = help
 
 -- "any other line than those below is answered by one of the three `error: ..` lines"
 abbrev pub answered : Verb → Said → Told
 answered v (given ns xs) = worked v (get_or ns 0 0) (get_or ns 1 0) xs
-answered v unknown = noSuchCommand
-answered v wrong = notSoWritten
-answered v long = tooLong
+answered v unknown = no_such_command
+answered v wrong = not_so_written
+answered v long = too_long
 
 -- "answers each by one line, but keeps nothing from one line to the next"
 unfoldable pub program : Program Unit
-program = record { opening = tt; answer = (λ k l. lineText (parts_of (answered (verbOf l) (said_of l)))); next = (λ k l. k) }
+program = record { opening = tt; answer = (λ k l. line_text (parts_of (answered (verb_of l) (said_of l)))); next = (λ k l. k) }

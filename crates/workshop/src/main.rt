@@ -4,7 +4,7 @@ mod work;
 ghost use Rattle.std.specs.Prelude.{◌≡◌, ◌≤◌, length};
 ghost use Rattle.input.specs.Reading.{Reads};
 ghost use Rattle.input.specs.Running.{Goes};
-ghost use Rattle.jobs.specs.Told.{outRoom};
+ghost use Rattle.jobs.specs.Told.{out_room};
 ghost use Rattle.workshop.specs.Worked.{program};
 ghost use Rattle.workshop.specs.Running.{Ends};
 
@@ -34,7 +34,7 @@ struct State {
 // One turn: goes on with the input, and answers a line where it is whole now.
 fn turn(bytes: &mut Sent, out: &mut Out, line: &mut Line, chunk: &mut Chunk, state: State) -> State
     requires { Reads state.input }
-    ensures reads { (Reads result.input) × (result.said ≤ outRoom) }
+    ensures reads { (Reads result.input) × (result.said ≤ out_room) }
     ensures goes { Goes program tt state.input line.old chunk.old tt result.input result.said line.new chunk.new out.new }
 {
     let input = state.input;

@@ -2,11 +2,11 @@
 ghost use Rattle.std.specs.Prelude.{◌≡◌, List, ℕ, ◌≤◌, length, take, get_or};
 ghost use Rattle.screen.specs.Screen.{seen, answer_of};
 ghost use Rattle.logger.specs.Writer.{written};
-ghost use Rattle.words.specs.Args.{saidBy};
-ghost use Rattle.input.specs.Reading.{lineRoom};
-ghost use Rattle.jobs.specs.Said.{sentRoom, AskedFits};
+ghost use Rattle.words.specs.Args.{said_by};
+ghost use Rattle.input.specs.Reading.{line_room};
+ghost use Rattle.jobs.specs.Said.{sent_room, AskedFits};
 ghost use Rattle.jobs.specs.Told.{tells, AnswerFits};
-ghost use Rattle.workshop.specs.Worked.{verdictTold, screenTold, writtenTold, worked, answered};
+ghost use Rattle.workshop.specs.Worked.{verdict_told, screen_told, written_told, worked, answered};
 ghost use Rattle.workshop.specs.Running.{Answers};
 
 use input::{Line, is_skipped, unended};
@@ -18,7 +18,7 @@ use words::args::Verdict;
 
 fn verdict_told(verdict: u8, watts: u32) -> Answer
     ensures answer_fits { AnswerFits result }
-    ensures by_index { (xs : List ℕ) → tells result xs ≡ verdictTold verdict watts }
+    ensures by_index { (xs : List ℕ) → tells result xs ≡ verdict_told verdict watts }
 {
     if verdict == 1 {
         return Answer::Live(watts);
@@ -32,7 +32,7 @@ fn verdict_told(verdict: u8, watts: u32) -> Answer
 // What the screen says.
 fn screen_told(said: ScreenAnswer) -> Answer
     ensures answer_fits { AnswerFits result }
-    ensures by_index { (xs : List ℕ) → tells result xs ≡ screenTold said }
+    ensures by_index { (xs : List ℕ) → tells result xs ≡ screen_told said }
 {
     if said.refused == 0 {
         return verdict_told(said.verdict, said.watts);
@@ -44,7 +44,7 @@ fn screen_told(said: ScreenAnswer) -> Answer
 fn look(bytes: &[u8], count: usize, present: u32) -> Answer
     requires { count ≤ length bytes.now }
     ensures answer_fits { AnswerFits result }
-    ensures by_index { (xs : List ℕ) → tells result xs ≡ screenTold (answer_of (seen (take count bytes.now) present)) }
+    ensures by_index { (xs : List ℕ) → tells result xs ≡ screen_told (answer_of (seen (take count bytes.now) present)) }
 {
     let said = screen(&bytes[0..count], present);
     screen_told(said)
@@ -52,9 +52,9 @@ fn look(bytes: &[u8], count: usize, present: u32) -> Answer
 
 // Writes a reading into the area that the first `count` bytes are.
 fn put_reading(bytes: &mut [u8], count: usize, second: u32, watts: u32) -> Answer
-    requires { (count ≤ length bytes.old) × (count ≤ sentRoom) }
+    requires { (count ≤ length bytes.old) × (count ≤ sent_room) }
     ensures answer_fits { AnswerFits result }
-    ensures bytes_after { tells result bytes.new ≡ writtenTold (written second watts (take count bytes.old)) }
+    ensures bytes_after { tells result bytes.new ≡ written_told (written second watts (take count bytes.old)) }
 {
     let refused = write_reading(&mut bytes[0..count], second, watts);
     if refused == 0 {
@@ -83,7 +83,7 @@ fn work(bytes: &mut Sent, asked: Asked) -> Answer
 fn answer_to(bytes: &mut Sent, asked: Asked) -> Answer
     requires { AskedFits asked }
     ensures answer_fits { AnswerFits result }
-    ensures bytes_after { tells result bytes.new ≡ answered asked.verb (saidBy asked.given bytes.old) }
+    ensures bytes_after { tells result bytes.new ≡ answered asked.verb (said_by asked.given bytes.old) }
 {
     let given = asked.given;
     let verdict = given.verdict;
@@ -98,7 +98,7 @@ fn answer_to(bytes: &mut Sent, asked: Asked) -> Answer
 // Carries out the line that the first `len` bytes of `line` are, and puts what answers it at the start of `out`. Answers its length, which is
 // 0 for a line that is skipped.
 pub fn respond(bytes: &mut Sent, out: &mut Out, line: &Line, len: usize) -> usize
-    requires { len ≤ lineRoom }
+    requires { len ≤ line_room }
     ensures { Answers (take len line.now) result out.new }
 {
     let end = unended(line, len);

@@ -1,11 +1,11 @@
 -- `active::active` meets its contract. Assumes nothing.
 use borrow.Author.Rules.{rules}
-use Rattle.active.proofs.Laws.{part_bytes, too_short, bad-parity, bad-crc, command-done}
+use Rattle.active.proofs.Laws.{part_bytes, too_short, bad_parity, bad_crc, command_done}
 use Rattle.active.proofs.active.Statement.{statement}
 use Rattle.active.proofs.active.Tie as tie
 
-pub active-spec : {M : Type 1} → statement M
-active-spec =
+pub active_spec : {M : Type 1} → statement M
+active_spec =
     tie.close
     (tie.spec
     (λ c κs. search rules)
@@ -19,8 +19,8 @@ active-spec =
     (λ c κs. search rules)
     (λ c. search rules)
     (λ c. search rules)
-    (λ c. search command-done)
+    (λ c. search command_done)
     (λ c. search rules)
-    (λ c. search bad-crc)
+    (λ c. search bad_crc)
     (λ c. search rules)
-    (λ c. search bad-parity))
+    (λ c. search bad_parity))

@@ -4,8 +4,8 @@ use Rattle.active.proofs.Laws.{known, misfit}
 use Rattle.active.proofs.decode.Statement.{statement}
 use Rattle.active.proofs.decode.Tie as tie
 
-pub decode-spec : {M : Type 1} → statement M
-decode-spec =
+pub decode_spec : {M : Type 1} → statement M
+decode_spec =
     tie.close
     (tie.spec
     (λ c. search rules)

@@ -1,11 +1,11 @@
 -- `active::done` meets its contract. Assumes nothing.
 use borrow.Author.Rules.{rules}
-use Rattle.active.proofs.Laws.{arm, arm-without}
+use Rattle.active.proofs.Laws.{arm, arm_without}
 use Rattle.active.proofs.done.Statement.{statement}
 use Rattle.active.proofs.done.Tie as tie
 
-pub done-spec : {M : Type 1} → statement M
-done-spec =
+pub done_spec : {M : Type 1} → statement M
+done_spec =
     tie.close
     (tie.spec
     (λ c. search rules)
@@ -34,7 +34,7 @@ done-spec =
     (λ c. search rules)
     (λ c. search arm)
     (λ c. search rules)
-    (λ c. search arm-without)
+    (λ c. search arm_without)
     (λ c. search rules)
     (λ c. search rules)
     (λ c. search arm)
@@ -42,6 +42,6 @@ done-spec =
     (λ c. search rules)
     (λ c. search arm)
     (λ c. search rules)
-    (λ c. search arm-without)
+    (λ c. search arm_without)
     (λ c. search rules)
-    (λ c. search arm-without))
+    (λ c. search arm_without))

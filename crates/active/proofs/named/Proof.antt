@@ -1,21 +1,21 @@
 -- `active::named` meets its contract. Assumes nothing.
 use borrow.Author.Rules.{rules}
-use Rattle.active.proofs.Laws.{arm-byte, arm-four, arm_named, other-named}
+use Rattle.active.proofs.Laws.{arm_byte, arm_four, arm_named, other_named}
 use Rattle.active.proofs.named.Statement.{statement}
 use Rattle.active.proofs.named.Tie as tie
 
-pub named-spec : {M : Type 1} → statement M
-named-spec =
+pub named_spec : {M : Type 1} → statement M
+named_spec =
     tie.close
     (tie.spec
-    (λ c. search arm-byte)
-    (λ c. search arm-byte)
-    (λ c. search arm-byte)
-    (λ c. search arm-byte)
-    (λ c κs. (search rules, search arm-four))
-    (λ c. search arm-byte)
-    (λ c κs. (search rules, search arm-four))
-    (λ c. search arm-byte)
+    (λ c. search arm_byte)
+    (λ c. search arm_byte)
+    (λ c. search arm_byte)
+    (λ c. search arm_byte)
+    (λ c κs. (search rules, search arm_four))
+    (λ c. search arm_byte)
+    (λ c κs. (search rules, search arm_four))
+    (λ c. search arm_byte)
     (λ c. search arm_named)
     (λ c. search arm_named)
     (λ c. search arm_named)
@@ -23,4 +23,4 @@ named-spec =
     (λ c. search arm_named)
     (λ c. search arm_named)
     (λ c. search arm_named)
-    (λ c. search other-named))
+    (λ c. search other_named))

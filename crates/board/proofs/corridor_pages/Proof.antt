@@ -4,8 +4,8 @@ use Rattle.board.proofs.Laws.{paged}
 use Rattle.board.proofs.corridor_pages.Statement.{statement}
 use Rattle.board.proofs.corridor_pages.Tie as tie
 
-pub corridor-pages-spec : {M : Type 1} → statement M
-corridor-pages-spec =
+pub corridor_pages_spec : {M : Type 1} → statement M
+corridor_pages_spec =
     tie.close
     (tie.spec
     (λ c κs. search rules)

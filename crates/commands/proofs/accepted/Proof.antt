@@ -1,11 +1,11 @@
 -- `commands::accepted` meets its contract. Assumes nothing.
 use borrow.Author.Rules.{rules}
-use Rattle.commands.proofs.Laws.{accepted-done}
+use Rattle.commands.proofs.Laws.{accepted_done}
 use Rattle.commands.proofs.accepted.Statement.{statement}
 use Rattle.commands.proofs.accepted.Tie as tie
 
-pub accepted-spec : {M : Type 1} → statement M
-accepted-spec =
+pub accepted_spec : {M : Type 1} → statement M
+accepted_spec =
     tie.close
     (tie.spec
     (λ c. search rules)
@@ -18,4 +18,4 @@ accepted-spec =
     (λ c κs. search rules)
     (λ c. search rules)
     (λ c. search rules)
-    (λ c. search accepted-done))
+    (λ c. search accepted_done))

@@ -1,6 +1,6 @@
 -- `commands::write` meets its contract. Assumes nothing.
 use borrow.Author.Rules.{rules}
-use Rattle.commands.proofs.Laws.{write-refused, write_done, not-refused}
+use Rattle.commands.proofs.Laws.{write_refused, write_done, not_refused}
 use Rattle.commands.proofs.write.Statement.{statement}
 use Rattle.commands.proofs.write.Tie as tie
 
@@ -13,8 +13,8 @@ write_spec =
     (λ c κs. search rules)
     (λ c. search rules)
     (λ c. search rules)
-    (λ c. search write-refused)
-    (λ c κs. (search rules, search not-refused))
+    (λ c. search write_refused)
+    (λ c κs. (search rules, search not_refused))
     (λ c. search rules)
     (λ c. search rules)
     (λ c. search rules)

@@ -1,7 +1,7 @@
 -- `corridor::turn` meets its contract. Assumes nothing.
 use borrow.Author.Rules.{rules}
-use Rattle.input.proofs.Shell.{turn-answers, turn-waits}
-use Rattle.corridor.proofs.Long.{long-alike}
+use Rattle.input.proofs.Shell.{turn_answers, turn_waits}
+use Rattle.corridor.proofs.Long.{long_alike}
 use Rattle.corridor.proofs.turn.Statement.{statement}
 use Rattle.corridor.proofs.turn.Tie as tie
 
@@ -12,5 +12,5 @@ turn_spec =
     (λ c κs. search rules)
     (λ c κs. search rules)
     (λ c κs. search rules)
-    (λ c. (search rules, record { on = (λ t stands. search (turn-answers, long-alike)) }))
-    (λ c. (search rules, record { on = (λ t stands. search (turn-waits, long-alike)) })))
+    (λ c. (search rules, record { on = (λ t stands. search (turn_answers, long_alike)) }))
+    (λ c. (search rules, record { on = (λ t stands. search (turn_waits, long_alike)) })))

@@ -8,8 +8,8 @@ use Rattle.crc_a.proofs.Laws.{appended}
 use Rattle.crc_a.proofs.append.Statement.{statement}
 use Rattle.crc_a.proofs.append.Tie as tie
 
-pub append-spec : {M : Type 1} → statement M
-append-spec =
+pub append_spec : {M : Type 1} → statement M
+append_spec =
     tie.close
     (tie.spec
     (λ c. search rules)

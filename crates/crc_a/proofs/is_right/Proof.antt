@@ -7,8 +7,8 @@ use Rattle.crc_a.proofs.Laws.{too_short, ends_with}
 use Rattle.crc_a.proofs.is_right.Statement.{statement}
 use Rattle.crc_a.proofs.is_right.Tie as tie
 
-pub is-right-spec : {M : Type 1} → statement M
-is-right-spec =
+pub is_right_spec : {M : Type 1} → statement M
+is_right_spec =
     tie.close
     (tie.spec
     (λ c. search too_short)

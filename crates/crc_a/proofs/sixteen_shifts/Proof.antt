@@ -3,5 +3,5 @@ use Rattle.crc_a.proofs.Unrolled.{sixteen}
 use Rattle.crc_a.proofs.sixteen_shifts.Statement.{statement}
 use Rattle.crc_a.proofs.sixteen_shifts.Tie as tie
 
-pub sixteen-shifts-spec : {M : Type 1} → statement M
-sixteen-shifts-spec = tie.close (tie.spec (λ c. search sixteen))
+pub sixteen_shifts_spec : {M : Type 1} → statement M
+sixteen_shifts_spec = tie.close (tie.spec (λ c. search sixteen))

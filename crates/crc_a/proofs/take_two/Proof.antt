@@ -4,8 +4,8 @@ use Rattle.crc_a.proofs.Unrolled.{two_in}
 use Rattle.crc_a.proofs.take_two.Statement.{statement}
 use Rattle.crc_a.proofs.take_two.Tie as tie
 
-pub take-two-spec : {M : Type 1} → statement M
-take-two-spec =
+pub take_two_spec : {M : Type 1} → statement M
+take_two_spec =
     tie.close
     (tie.spec
     (λ c κs. search rules)

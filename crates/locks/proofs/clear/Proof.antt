@@ -1,11 +1,11 @@
 -- `locks::clear` meets its contract. Assumes nothing.
 use borrow.Author.Rules.{rules}
-use Rattle.locks.specs.Locks.{clearAt}
+use Rattle.locks.specs.Locks.{clear_at}
 use Rattle.locks.proofs.clear.Statement.{statement}
 use Rattle.locks.proofs.clear.Tie as tie
 
 returns : tie.Need-returns
-unfolding clearAt
+unfolding clear_at
 returns c = search rules
 
 pub clear_spec : {M : Type 1} → statement M

@@ -4,5 +4,5 @@ use Rattle.logger.proofs.Writing.{block_made}
 use Rattle.logger.proofs.block_of.Statement.{statement}
 use Rattle.logger.proofs.block_of.Tie as tie
 
-pub block-of-spec : {M : Type 1} → statement M
-block-of-spec = tie.close (tie.spec (λ c κs. search rules) (λ c κs. search rules) (λ c. search block_made))
+pub block_of_spec : {M : Type 1} → statement M
+block_of_spec = tie.close (tie.spec (λ c κs. search rules) (λ c κs. search rules) (λ c. search block_made))

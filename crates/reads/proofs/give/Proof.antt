@@ -14,4 +14,4 @@ give_spec =
     (λ c κs. search rules)
     (λ c. search rules)
     (λ c. search rules)
-    (λ c. given _ _ _ _ _ _ _ _ _ _ _ _ _ c.before.before.before.before.before.before.before.before.before.before.before.before.before.lay-counted.ensures.0 c.before.before.before.before.before.before.mirror-pages.ensures c.before.before.says.ensures))
+    (λ c. given _ _ _ _ _ _ _ _ _ _ _ _ _ c.before.before.before.before.before.before.before.before.before.before.before.before.before.lay_counted.ensures.0 c.before.before.before.before.before.before.mirror_pages.ensures c.before.before.says.ensures))

@@ -4,8 +4,8 @@ use Rattle.reads.proofs.Laws.{unchosen}
 use Rattle.reads.proofs.mirror_four.Statement.{statement}
 use Rattle.reads.proofs.mirror_four.Tie as tie
 
-pub mirror-four-spec : {M : Type 1} → statement M
-mirror-four-spec =
+pub mirror_four_spec : {M : Type 1} → statement M
+mirror_four_spec =
     tie.close
     (tie.spec
     (λ c κs. search rules)

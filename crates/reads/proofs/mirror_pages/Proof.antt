@@ -4,8 +4,8 @@ use Rattle.reads.proofs.Laws.{unchosen}
 use Rattle.reads.proofs.mirror_pages.Statement.{statement}
 use Rattle.reads.proofs.mirror_pages.Tie as tie
 
-pub mirror-pages-spec : {M : Type 1} → statement M
-mirror-pages-spec =
+pub mirror_pages_spec : {M : Type 1} → statement M
+mirror_pages_spec =
     tie.close
     (tie.spec
     (λ c κs. search rules)

@@ -1,6 +1,6 @@
 -- `reads::read` meets its contract. Assumes nothing.
 use borrow.Author.Rules.{rules}
-use Rattle.reads.proofs.Laws.{read-data, read-nak}
+use Rattle.reads.proofs.Laws.{read_data, read_nak}
 use Rattle.reads.proofs.read.Statement.{statement}
 use Rattle.reads.proofs.read.Tie as tie
 
@@ -14,7 +14,7 @@ read_spec =
     (λ c κs. search rules)
     (λ c. search rules)
     (λ c. search rules)
-    (λ c. search read-data)
+    (λ c. search read_data)
     (λ c. search rules)
     (λ c. search rules)
-    (λ c. search read-nak))
+    (λ c. search read_nak))

@@ -9,8 +9,8 @@ returns : tie.Need-returns
 unfolding forty
 returns c = omega arith
 
-pub forty-spec : {M : Type 1} → statement M
-forty-spec =
+pub forty_spec : {M : Type 1} → statement M
+forty_spec =
     tie.close
     (tie.spec
     (λ c κs. search rules)

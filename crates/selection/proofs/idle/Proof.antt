@@ -1,6 +1,6 @@
 -- `selection::idle` meets its contract. Assumes nothing.
 use borrow.Author.Rules.{rules}
-use Rattle.selection.proofs.Laws.{idle-wakes, idle-other, idle-long}
+use Rattle.selection.proofs.Laws.{idle_wakes, idle_other, idle_long}
 use Rattle.selection.proofs.idle.Statement.{statement}
 use Rattle.selection.proofs.idle.Tie as tie
 
@@ -13,6 +13,6 @@ idle_spec =
     (λ c κs. search rules)
     (λ c κs. search rules)
     (λ c. search rules)
-    (λ c. search idle-wakes)
-    (λ c. search idle-other)
-    (λ c. search idle-long))
+    (λ c. search idle_wakes)
+    (λ c. search idle_other)
+    (λ c. search idle_long))

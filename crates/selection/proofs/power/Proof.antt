@@ -4,8 +4,8 @@ use Rattle.selection.proofs.Laws.{one_shifted}
 use Rattle.selection.proofs.power.Statement.{statement}
 use Rattle.selection.proofs.power.Tie as tie
 
-pub power-spec : {M : Type 1} → statement M
-power-spec =
+pub power_spec : {M : Type 1} → statement M
+power_spec =
     tie.close
     (tie.spec
     (λ c. search rules)

@@ -1,7 +1,7 @@
 -- `workshop::turn` meets its contract. Assumes nothing.
 use borrow.Author.Rules.{rules}
-use Rattle.input.proofs.Shell.{turn-answers, turn-waits}
-use Rattle.workshop.proofs.Working.{long-alike}
+use Rattle.input.proofs.Shell.{turn_answers, turn_waits}
+use Rattle.workshop.proofs.Working.{long_alike}
 use Rattle.workshop.proofs.turn.Statement.{statement}
 use Rattle.workshop.proofs.turn.Tie as tie
 
@@ -12,5 +12,5 @@ turn_spec =
     (λ c κs. search rules)
     (λ c κs. search rules)
     (λ c κs. search rules)
-    (λ c. (search rules, record { on = (λ t stands. search (turn-answers, long-alike)) }))
-    (λ c. (search rules, record { on = (λ t stands. search (turn-waits, long-alike)) })))
+    (λ c. (search rules, record { on = (λ t stands. search (turn_answers, long_alike)) }))
+    (λ c. (search rules, record { on = (λ t stands. search (turn_waits, long_alike)) })))

@@ -1,11 +1,11 @@
 -- `corridor::calls::call_step` meets its contract. Assumes nothing.
 use borrow.Author.Rules.{rules}
-use Rattle.corridor.proofs.Laws.{step-front}
+use Rattle.corridor.proofs.Laws.{step_front}
 use Rattle.corridor.proofs.calls.call_step.Statement.{statement}
 use Rattle.corridor.proofs.calls.call_step.Tie as tie
 
-pub call-step-spec : {M : Type 1} → statement M
-call-step-spec =
+pub call_step_spec : {M : Type 1} → statement M
+call_step_spec =
     tie.close
     (tie.spec
     (λ c. search rules)
@@ -17,4 +17,4 @@ call-step-spec =
     (λ c κs. search rules)
     (λ c. search rules)
     (λ c. search rules)
-    (λ c. search step-front))
+    (λ c. search step_front))

@@ -4,7 +4,7 @@ use mathlib.Core.Path.{◌≡◌}
 use Prim.Native.Nat.{◌-◌, ◌≤◌}
 use lib.ListN.{length, take}
 use Rattle.corridor.specs.Played.{zeros}
-use Rattle.corridor.proofs.Laws.{none-cleared, one-cleared, all-cleared}
+use Rattle.corridor.proofs.Laws.{none_cleared_lem, one_cleared, all_cleared}
 use Rattle.corridor.proofs.session.clear.Statement.{statement}
 use Rattle.corridor.proofs.session.clear.Tie as tie
 
@@ -20,10 +20,10 @@ clear_spec =
     (tie.spec
     invariant-loop
     decreases-loop
-    (λ c. (search rules, search rules, search none-cleared))
+    (λ c. (search rules, search rules, search none_cleared_lem))
     (λ c. search rules)
     (λ c. search rules)
     (λ c. search rules)
-    (λ c. (search rules, search rules, search one-cleared))
+    (λ c. (search rules, search rules, search one_cleared))
     (λ c. search rules)
-    (λ c. search all-cleared))
+    (λ c. search all_cleared))

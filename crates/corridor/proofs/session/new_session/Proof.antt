@@ -4,8 +4,8 @@ use Rattle.corridor.proofs.Laws.{opened}
 use Rattle.corridor.proofs.session.new_session.Statement.{statement}
 use Rattle.corridor.proofs.session.new_session.Tie as tie
 
-pub new-session-spec : {M : Type 1} → statement M
-new-session-spec =
+pub new_session_spec : {M : Type 1} → statement M
+new_session_spec =
     tie.close
     (tie.spec
     (λ c κs. search rules)

@@ -4,8 +4,8 @@ use Rattle.corridor.proofs.Laws.{took}
 use Rattle.corridor.proofs.session.take_image.Statement.{statement}
 use Rattle.corridor.proofs.session.take_image.Tie as tie
 
-pub take-image-spec : {M : Type 1} → statement M
-take-image-spec =
+pub take_image_spec : {M : Type 1} → statement M
+take_image_spec =
     tie.close
     (tie.spec
     (λ c κs. search rules)

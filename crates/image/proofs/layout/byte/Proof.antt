@@ -8,8 +8,8 @@ returns : tie.Need-returns
 unfolding byte
 returns c = search rules
 
-pub byte-spec : {M : Type 1} → statement M
-byte-spec =
+pub byte_spec : {M : Type 1} → statement M
+byte_spec =
     tie.close
     (tie.spec
     (λ c. search rules)

@@ -1,13 +1,13 @@
 -- `image::layout::page_at` meets its contract. Assumes nothing.
 use borrow.Author.Rules.{rules}
-use Rattle.image.proofs.Laws.{page-read}
+use Rattle.image.proofs.Laws.{page_read}
 use Rattle.image.proofs.layout.page_at.Statement.{statement}
 use Rattle.image.proofs.layout.page_at.Tie as tie
 
-pub page-at-spec : {M : Type 1} → statement M
-page-at-spec =
+pub page_at_spec : {M : Type 1} → statement M
+page_at_spec =
     tie.close
     (tie.spec
     (λ c. search rules)
     (λ c κs. search rules)
-    (λ c. search page-read))
+    (λ c. search page_read))

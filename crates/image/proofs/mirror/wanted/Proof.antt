@@ -4,8 +4,8 @@ use Rattle.image.proofs.Mirroring.{want}
 use Rattle.image.proofs.mirror.wanted.Statement.{statement}
 use Rattle.image.proofs.mirror.wanted.Tie as tie
 
-pub wanted-spec : {M : Type 1} → statement M
-wanted-spec =
+pub wanted_spec : {M : Type 1} → statement M
+wanted_spec =
     tie.close
     (tie.spec
     (λ c κs. search rules)

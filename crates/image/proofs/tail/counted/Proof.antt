@@ -1,11 +1,11 @@
 -- `image::tail::counted` meets its contract. Assumes nothing.
 use borrow.Author.Rules.{rules}
-use Rattle.image.specs.Tail.{counterIn, counted}
+use Rattle.image.specs.Tail.{counter_in, counted}
 use Rattle.image.proofs.tail.counted.Statement.{statement}
 use Rattle.image.proofs.tail.counted.Tie as tie
 
 returns : tie.Need-returns
-unfolding counted counterIn
+unfolding counted counter_in
 returns c = cc
 
 pub counted_spec : {M : Type 1} → statement M

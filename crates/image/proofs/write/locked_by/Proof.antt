@@ -1,11 +1,11 @@
 -- `image::write::locked_by` meets its contract. Assumes nothing.
 use borrow.Author.Rules.{rules}
-use Rattle.image.proofs.Laws.{locked-read}
+use Rattle.image.proofs.Laws.{locked_read}
 use Rattle.image.proofs.write.locked_by.Statement.{statement}
 use Rattle.image.proofs.write.locked_by.Tie as tie
 
-pub locked-by-spec : {M : Type 1} → statement M
-locked-by-spec =
+pub locked_by_spec : {M : Type 1} → statement M
+locked_by_spec =
     tie.close
     (tie.spec
     (λ c κs. search rules)
@@ -14,4 +14,4 @@ locked-by-spec =
     (λ c κs. search rules)
     (λ c κs. search rules)
     (λ c κs. search rules)
-    (λ c. search locked-read))
+    (λ c. search locked_read))

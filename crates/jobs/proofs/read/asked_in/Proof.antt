@@ -1,11 +1,11 @@
 -- `jobs::read::asked_in` meets its contract. Assumes nothing.
 use borrow.Author.Rules.{rules}
-use Rattle.jobs.proofs.Saying.{verb-told, line-told, line-fits}
+use Rattle.jobs.proofs.Saying.{verb_told, line_told, line_fits}
 use Rattle.jobs.proofs.read.asked_in.Statement.{statement}
 use Rattle.jobs.proofs.read.asked_in.Tie as tie
 
-pub asked-in-spec : {M : Type 1} → statement M
-asked-in-spec =
+pub asked_in_spec : {M : Type 1} → statement M
+asked_in_spec =
     tie.close
     (tie.spec
     (λ c κs. search rules)
@@ -14,4 +14,4 @@ asked-in-spec =
     (λ c. search rules)
     (λ c κs. search rules)
     (λ c κs. search rules)
-    (λ c. (search line-fits, (search verb-told, search line-told))))
+    (λ c. (search line_fits, (search verb_told, search line_told))))

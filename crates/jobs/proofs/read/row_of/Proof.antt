@@ -1,17 +1,17 @@
 -- `jobs::read::row_of` meets its contract. Assumes nothing.
 use borrow.Author.Rules.{rules}
 use Rattle.jobs.specs.Said.{commands}
-use Rattle.jobs.proofs.Saying.{row-known, row-unknown}
+use Rattle.jobs.proofs.Saying.{row_known, row_unknown}
 use Rattle.jobs.proofs.read.row_of.Statement.{statement}
 use Rattle.jobs.proofs.read.row_of.Tie as tie
 
-pub row-of-spec : {M : Type 1} → statement M
+pub row_of_spec : {M : Type 1} → statement M
 unfolding commands
-row-of-spec =
+row_of_spec =
     tie.close
     (tie.spec
     (λ c κs. search rules)
-    (λ c. (search rules, search row-known))
-    (λ c. (search rules, search row-known))
-    (λ c. (search rules, search row-known))
-    (λ c. (search rules, search (row-unknown, c.match.rest))))
+    (λ c. (search rules, search row_known))
+    (λ c. (search rules, search row_known))
+    (λ c. (search rules, search row_known))
+    (λ c. (search rules, search (row_unknown, c.match.rest))))

@@ -1,11 +1,11 @@
 -- `lines::write::bits_line` meets its contract. Assumes nothing.
 use borrow.Author.Rules.{rules}
-use Rattle.laying.proofs.Laying.{line-laid, more-laid, last-laid}
+use Rattle.laying.proofs.Laying.{line_laid, more_laid, last_laid}
 use Rattle.lines.proofs.write.bits_line.Statement.{statement}
 use Rattle.lines.proofs.write.bits_line.Tie as tie
 
-pub bits-line-spec : {M : Type 1} → statement M
-bits-line-spec =
+pub bits_line_spec : {M : Type 1} → statement M
+bits_line_spec =
     tie.close
     (tie.spec
     (λ c. search rules)
@@ -15,4 +15,4 @@ bits-line-spec =
     (λ c κs. search rules)
     (λ c. search rules)
     (λ c κs. search rules)
-    (λ c. (search rules, search (line-laid, more-laid, last-laid))))
+    (λ c. (search rules, search (line_laid, more_laid, last_laid))))

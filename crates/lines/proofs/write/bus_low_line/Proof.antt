@@ -1,11 +1,11 @@
 -- `lines::write::bus_low_line` meets its contract. Assumes nothing.
 use borrow.Author.Rules.{rules}
-use Rattle.laying.proofs.Laying.{line-laid, more-laid, last-laid}
+use Rattle.laying.proofs.Laying.{line_laid, more_laid, last_laid}
 use Rattle.lines.proofs.write.bus_low_line.Statement.{statement}
 use Rattle.lines.proofs.write.bus_low_line.Tie as tie
 
-pub bus-low-line-spec : {M : Type 1} → statement M
-bus-low-line-spec =
+pub bus_low_line_spec : {M : Type 1} → statement M
+bus_low_line_spec =
     tie.close
     (tie.spec
     (λ c. search rules)
@@ -15,4 +15,4 @@ bus-low-line-spec =
     (λ c κs. search rules)
     (λ c. search rules)
     (λ c κs. search rules)
-    (λ c. (search rules, search (line-laid, more-laid, last-laid))))
+    (λ c. (search rules, search (line_laid, more_laid, last_laid))))

@@ -1,11 +1,11 @@
 -- `lines::write::bus_writing_line` meets its contract. Assumes nothing.
 use borrow.Author.Rules.{rules}
-use Rattle.laying.proofs.Laying.{line-laid, more-laid, last-laid}
+use Rattle.laying.proofs.Laying.{line_laid, more_laid, last_laid}
 use Rattle.lines.proofs.write.bus_writing_line.Statement.{statement}
 use Rattle.lines.proofs.write.bus_writing_line.Tie as tie
 
-pub bus-writing-line-spec : {M : Type 1} → statement M
-bus-writing-line-spec =
+pub bus_writing_line_spec : {M : Type 1} → statement M
+bus_writing_line_spec =
     tie.close
     (tie.spec
     (λ c. search rules)
@@ -16,4 +16,4 @@ bus-writing-line-spec =
     (λ c κs. search rules)
     (λ c. search rules)
     (λ c κs. search rules)
-    (λ c. (search rules, search (line-laid, more-laid, last-laid))))
+    (λ c. (search rules, search (line_laid, more_laid, last_laid))))

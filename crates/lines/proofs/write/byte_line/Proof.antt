@@ -1,11 +1,11 @@
 -- `lines::write::byte_line` meets its contract. Assumes nothing.
 use borrow.Author.Rules.{rules}
-use Rattle.laying.proofs.Laying.{line-laid, more-laid, last-laid}
+use Rattle.laying.proofs.Laying.{line_laid, more_laid, last_laid}
 use Rattle.lines.proofs.write.byte_line.Statement.{statement}
 use Rattle.lines.proofs.write.byte_line.Tie as tie
 
-pub byte-line-spec : {M : Type 1} → statement M
-byte-line-spec =
+pub byte_line_spec : {M : Type 1} → statement M
+byte_line_spec =
     tie.close
     (tie.spec
     (λ c. search rules)
@@ -14,4 +14,4 @@ byte-line-spec =
     (λ c κs. search rules)
     (λ c. search rules)
     (λ c κs. search rules)
-    (λ c. (search rules, search (line-laid, more-laid, last-laid))))
+    (λ c. (search rules, search (line_laid, more_laid, last_laid))))

@@ -1,15 +1,15 @@
 -- `lines::write::bytes_line` meets its contract. Assumes nothing.
 use borrow.Author.Rules.{rules}
-use Rattle.laying.proofs.Laying.{line-laid, more-laid, last-laid}
+use Rattle.laying.proofs.Laying.{line_laid, more_laid, last_laid}
 use Rattle.lines.proofs.write.bytes_line.Statement.{statement}
 use Rattle.lines.proofs.write.bytes_line.Tie as tie
 
-pub bytes-line-spec : {M : Type 1} → statement M
-bytes-line-spec =
+pub bytes_line_spec : {M : Type 1} → statement M
+bytes_line_spec =
     tie.close
     (tie.spec
     (λ c κs. search rules)
     (λ c κs. search rules)
     (λ c. search rules)
     (λ c κs. search rules)
-    (λ c. (search rules, search (line-laid, more-laid, last-laid))))
+    (λ c. (search rules, search (line_laid, more_laid, last_laid))))

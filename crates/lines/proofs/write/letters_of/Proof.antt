@@ -4,8 +4,8 @@ use Rattle.lines.proofs.Telling.{spelt}
 use Rattle.lines.proofs.write.letters_of.Statement.{statement}
 use Rattle.lines.proofs.write.letters_of.Tie as tie
 
-pub letters-of-spec : {M : Type 1} → statement M
-letters-of-spec =
+pub letters_of_spec : {M : Type 1} → statement M
+letters_of_spec =
     tie.close
     (tie.spec
     (λ c. search rules)

@@ -4,8 +4,8 @@ use Rattle.lines.proofs.Telling.{worded}
 use Rattle.lines.proofs.write.put_word.Statement.{statement}
 use Rattle.lines.proofs.write.put_word.Tie as tie
 
-pub put-word-spec : {M : Type 1} → statement M
-put-word-spec =
+pub put_word_spec : {M : Type 1} → statement M
+put_word_spec =
     tie.close
     (tie.spec
     (λ c κs. search rules)

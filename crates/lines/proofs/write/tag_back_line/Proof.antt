@@ -1,11 +1,11 @@
 -- `lines::write::tag_back_line` meets its contract. Assumes nothing.
 use borrow.Author.Rules.{rules}
-use Rattle.laying.proofs.Laying.{line-laid, more-laid, last-laid}
+use Rattle.laying.proofs.Laying.{line_laid, more_laid, last_laid}
 use Rattle.lines.proofs.write.tag_back_line.Statement.{statement}
 use Rattle.lines.proofs.write.tag_back_line.Tie as tie
 
-pub tag-back-line-spec : {M : Type 1} → statement M
-tag-back-line-spec =
+pub tag_back_line_spec : {M : Type 1} → statement M
+tag_back_line_spec =
     tie.close
     (tie.spec
     (λ c. search rules)
@@ -20,4 +20,4 @@ tag-back-line-spec =
     (λ c κs. search rules)
     (λ c. search rules)
     (λ c κs. search rules)
-    (λ c. (search rules, search (line-laid, more-laid, last-laid) depth 9)))
+    (λ c. (search rules, search (line_laid, more_laid, last_laid) depth 9)))

@@ -4,7 +4,7 @@ use Prim.Native.Nat.{◌≤◌, ◌-◌}
 use lib.ListN.{length, drop}
 use mathlib.Core.Path.{◌≡◌}
 use Rattle.screen.specs.Blocks.{walk}
-use Rattle.screen.proofs.Spans.{walk-over, walk_ends, walk-null, walk-message, walk-on, walk-cut, begins-before, ends-within, less-left}
+use Rattle.screen.proofs.Spans.{walk_over, walk_ends, walk_null, walk_message, walk_on, walk_cut, begins_before, ends_within, less_left}
 use Rattle.screen.proofs.blocks.walk.Statement.{statement}
 use Rattle.screen.proofs.blocks.walk.Tie as tie
 
@@ -19,16 +19,16 @@ returns : tie.Need-returns invariant-loop decreases-loop
 returns c = (search rules, search walk_ends)
 
 loop-again : tie.Need-loop-preserved invariant-loop decreases-loop
-loop-again c = (search rules, search walk-null)
+loop-again c = (search rules, search walk_null)
 
 returns-3 : tie.Need-returns-3 invariant-loop decreases-loop
-returns-3 c = ((search begins-before, search ends-within), search walk-message)
+returns-3 c = ((search begins_before, search ends_within), search walk_message)
 
 loop-again-2 : tie.Need-loop-preserved-2 invariant-loop decreases-loop
-loop-again-2 c = (search ends-within, search walk-on)
+loop-again-2 c = (search ends_within, search walk_on)
 
-pub walk-spec : {M : Type 1} → statement M
-walk-spec =
+pub walk_spec : {M : Type 1} → statement M
+walk_spec =
     tie.close
     (tie.spec
     invariant-loop
@@ -42,8 +42,8 @@ walk-spec =
     (λ c κs. search rules)
     (λ c. search rules)
     (λ c. search rules)
-    (λ c. (search rules, search walk-cut))
+    (λ c. (search rules, search walk_cut))
     returns-3
-    (λ c. search less-left)
+    (λ c. search less_left)
     loop-again-2
-    (λ c. (search rules, search walk-over)))
+    (λ c. (search rules, search walk_over)))

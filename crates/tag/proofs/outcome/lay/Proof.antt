@@ -4,8 +4,8 @@ use Rattle.tag.proofs.Laws.{lay_done}
 use Rattle.tag.proofs.outcome.lay.Statement.{statement}
 use Rattle.tag.proofs.outcome.lay.Tie as tie
 
-pub lay-spec : {M : Type 1} → statement M
-lay-spec =
+pub lay_spec : {M : Type 1} → statement M
+lay_spec =
     tie.close
     (tie.spec
     (λ c κs. search rules)

@@ -5,7 +5,7 @@ use native.Mathlib.Omega.{arith}
 use lib.ListN.{length}
 use borrow.Author.Rules.{rules}
 use Rattle.tag.specs.Outcome.{byte_of, low_bytes}
-use Rattle.tag.proofs.Laws.{laid, laid_end, byte-turn, byte_next}
+use Rattle.tag.proofs.Laws.{laid, laid_end, byte_turn, byte_next}
 use Rattle.tag.proofs.outcome.lay_number.Statement.{statement}
 use Rattle.tag.proofs.outcome.lay_number.Tie as tie
 
@@ -20,8 +20,8 @@ returns : tie.Need-returns invariant-loop decreases-loop
 unfolding low_bytes
 returns c = search laid_end
 
-pub lay-number-spec : {M : Type 1} → statement M
-lay-number-spec =
+pub lay_number_spec : {M : Type 1} → statement M
+lay_number_spec =
     tie.close
     (tie.spec
     invariant-loop
@@ -31,6 +31,6 @@ lay-number-spec =
     (λ c. search rules)
     (λ c. search rules)
     (λ c. search rules)
-    (λ c. (search rules, search byte_next, search byte-turn, search rules))
+    (λ c. (search rules, search byte_next, search byte_turn, search rules))
     (λ c. search rules)
     returns)

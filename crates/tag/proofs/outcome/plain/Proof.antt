@@ -4,8 +4,8 @@ use Rattle.tag.proofs.Laws.{plain_done}
 use Rattle.tag.proofs.outcome.plain.Statement.{statement}
 use Rattle.tag.proofs.outcome.plain.Tie as tie
 
-pub plain-spec : {M : Type 1} → statement M
-plain-spec =
+pub plain_spec : {M : Type 1} → statement M
+plain_spec =
     tie.close
     (tie.spec
     (λ c. search rules)

@@ -1,18 +1,18 @@
 -- `tag::record::flag` meets its contract. Assumes nothing.
-use Rattle.tag.specs.Record.{flagOf}
+use Rattle.tag.specs.Record.{flag_of}
 use Rattle.tag.proofs.record.flag.Statement.{statement}
 use Rattle.tag.proofs.record.flag.Tie as tie
 
 returns : tie.Need-returns
-unfolding flagOf
+unfolding flag_of
 returns c = rw c.if1.true
 
 returns-2 : tie.Need-returns-2
-unfolding flagOf
+unfolding flag_of
 returns-2 c = rw c.if1.false
 
-pub flag-spec : {M : Type 1} → statement M
-flag-spec =
+pub flag_spec : {M : Type 1} → statement M
+flag_spec =
     tie.close
     (tie.spec
     returns

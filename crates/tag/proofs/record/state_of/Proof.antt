@@ -24,8 +24,8 @@ returns-5 : tie.Need-returns-5
 unfolding state_of
 returns-5 c = simp (ne_eqb _ _ c.match.rest.0.0.0.1, ne_eqb _ _ c.match.rest.0.0.1, ne_eqb _ _ c.match.rest.0.1, ne_eqb _ _ c.match.rest.1)
 
-pub state-of-spec : {M : Type 1} → statement M
-state-of-spec =
+pub state_of_spec : {M : Type 1} → statement M
+state_of_spec =
     tie.close
     (tie.spec
     returns

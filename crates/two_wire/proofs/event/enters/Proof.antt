@@ -4,8 +4,8 @@ use Rattle.two_wire.proofs.Laws.{replies}
 use Rattle.two_wire.proofs.event.enters.Statement.{statement}
 use Rattle.two_wire.proofs.event.enters.Tie as tie
 
-pub enters-spec : {M : Type 1} → statement M
-enters-spec =
+pub enters_spec : {M : Type 1} → statement M
+enters_spec =
     tie.close
     (tie.spec
     (λ c κs. search rules)

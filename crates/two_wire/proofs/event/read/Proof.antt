@@ -1,6 +1,6 @@
 -- `two_wire::event::read` meets its contract. Assumes nothing.
 use Rattle.std.proofs.Common.{rules}
-use Rattle.two_wire.proofs.Laws.{reading, not-reading}
+use Rattle.two_wire.proofs.Laws.{reading, not_reading}
 use Rattle.two_wire.proofs.event.read.Statement.{statement}
 use Rattle.two_wire.proofs.event.read.Tie as tie
 
@@ -12,4 +12,4 @@ read_spec =
     (λ c κs. search rules)
     (λ c κs. search rules)
     (λ c. search reading)
-    (λ c. search not-reading))
+    (λ c. search not_reading))

@@ -1,6 +1,6 @@
 -- `two_wire::gathered::store` meets its contract. Assumes nothing.
 use Rattle.std.proofs.Common.{rules}
-use Rattle.two_wire.proofs.Laws.{stored-image, stored-memory, fits-image, fits-memory}
+use Rattle.two_wire.proofs.Laws.{stored_image, stored_memory, fits_image, fits_memory}
 use Rattle.two_wire.proofs.gathered.store.Statement.{statement}
 use Rattle.two_wire.proofs.gathered.store.Tie as tie
 
@@ -9,10 +9,10 @@ store_spec =
     tie.close
     (tie.spec
     (λ c. search rules)
-    (λ c κs. search fits-image)
+    (λ c κs. search fits_image)
     (λ c. search rules)
-    (λ c κs. search fits-memory)
+    (λ c κs. search fits_memory)
     (λ c. search rules)
-    (λ c. search stored-image)
+    (λ c. search stored_image)
     (λ c. search rules)
-    (λ c. search stored-memory))
+    (λ c. search stored_memory))

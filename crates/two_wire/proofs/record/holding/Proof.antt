@@ -4,8 +4,8 @@ use Rattle.two_wire.proofs.Laws.{holds}
 use Rattle.two_wire.proofs.record.holding.Statement.{statement}
 use Rattle.two_wire.proofs.record.holding.Tie as tie
 
-pub holding-spec : {M : Type 1} → statement M
-holding-spec =
+pub holding_spec : {M : Type 1} → statement M
+holding_spec =
     tie.close
     (tie.spec
     (λ c κs. search rules)

@@ -4,8 +4,8 @@ use Rattle.words.proofs.Arguing.{third}
 use Rattle.words.proofs.args.kind_at.Statement.{statement}
 use Rattle.words.proofs.args.kind_at.Tie as tie
 
-pub kind-at-spec : {M : Type 1} → statement M
-kind-at-spec =
+pub kind_at_spec : {M : Type 1} → statement M
+kind_at_spec =
     tie.close
     (tie.spec
     (λ c. search rules)

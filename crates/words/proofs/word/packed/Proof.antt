@@ -5,7 +5,7 @@ use lib.ListN.{length, drop}
 use mathlib.Core.Path.{◌≡◌}
 use mathlib.Core.Bool.{true}
 use Rattle.words.specs.Pack.{pack, all_bytes}
-use Rattle.words.proofs.Packing.{pack-start, bytes-start, pack-turn, bytes-turn, pack-large, readable-none, pack-end, readable-end}
+use Rattle.words.proofs.Packing.{pack_start, bytes_start, pack_turn, bytes_turn, pack_large, readable_none, pack_end, readable_end}
 use Rattle.words.proofs.word.packed.Statement.{statement}
 use Rattle.words.proofs.word.packed.Tie as tie
 
@@ -15,19 +15,19 @@ invariant-loop word k₀ i₀ k i = (i ≤ length word) × (k < 0x1_0000_0000_00
 abbrev decreases-loop : tie.decreases-loop
 decreases-loop word k₀ i₀ k i = i
 
-pub packed-spec : {M : Type 1} → statement M
-packed-spec =
+pub packed_spec : {M : Type 1} → statement M
+packed_spec =
     tie.close
     (tie.spec
     invariant-loop
     decreases-loop
-    (λ c. search (pack-start, bytes-start, rules))
-    (λ c. (search pack-large, search readable-none))
+    (λ c. search (pack_start, bytes_start, rules))
+    (λ c. (search pack_large, search readable_none))
     (λ c. search rules)
     (λ c. search rules)
     (λ c. search rules)
     (λ c κs. search rules)
     (λ c. search rules)
     (λ c. search rules)
-    (λ c. (search rules, search rules, search pack-turn, search bytes-turn))
-    (λ c. (search pack-end, search readable-end)))
+    (λ c. (search rules, search rules, search pack_turn, search bytes_turn))
+    (λ c. (search pack_end, search readable_end)))

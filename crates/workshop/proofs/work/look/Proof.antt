@@ -13,4 +13,4 @@ look_spec =
     (λ c. search rules)
     (λ c κs. search rules)
     (λ c κs. search rules)
-    (λ c. (search rules, (λ xs. search (looked, c.screen-told.ensures.1)))))
+    (λ c. (search rules, (λ xs. search (looked, c.screen_told.ensures.1)))))

@@ -1,16 +1,16 @@
 -- `workshop::work::respond` meets its contract. Assumes nothing.
 use borrow.Author.Rules.{rules}
-use Rattle.workshop.proofs.Working.{responded-nothing, responded}
+use Rattle.workshop.proofs.Working.{responded_nothing, responded}
 use Rattle.workshop.proofs.work.respond.Statement.{statement}
 use Rattle.workshop.proofs.work.respond.Tie as tie
 
-pub respond-spec : {M : Type 1} → statement M
-respond-spec =
+pub respond_spec : {M : Type 1} → statement M
+respond_spec =
     tie.close
     (tie.spec
     (λ c κs. search rules)
     (λ c κs. search rules)
-    (λ c. search responded-nothing)
+    (λ c. search responded_nothing)
     (λ c κs. search rules)
     (λ c κs. search rules)
     (λ c κs. search rules)

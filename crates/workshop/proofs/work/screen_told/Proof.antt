@@ -1,13 +1,13 @@
 -- `workshop::work::screen_told` meets its contract. Assumes nothing.
 use borrow.Author.Rules.{rules}
-use Rattle.workshop.proofs.Working.{told-verdict, told-refusal}
+use Rattle.workshop.proofs.Working.{told_verdict, told_refusal}
 use Rattle.workshop.proofs.work.screen_told.Statement.{statement}
 use Rattle.workshop.proofs.work.screen_told.Tie as tie
 
-pub screen-told-spec : {M : Type 1} → statement M
-screen-told-spec =
+pub screen_told_spec : {M : Type 1} → statement M
+screen_told_spec =
     tie.close
     (tie.spec
     (λ c κs. search rules)
-    (λ c. (search rules, (λ xs. search (told-verdict, c.verdict-told.ensures.1))))
-    (λ c. (search rules, (λ xs. search told-refusal))))
+    (λ c. (search rules, (λ xs. search (told_verdict, c.verdict_told.ensures.1))))
+    (λ c. (search rules, (λ xs. search told_refusal))))

@@ -1,13 +1,13 @@
 -- `workshop::work::verdict_told` meets its contract. Assumes nothing.
 use borrow.Author.Rules.{rules}
-use Rattle.workshop.proofs.Working.{told-live, told-old, told-ahead}
+use Rattle.workshop.proofs.Working.{told_live, told_old, told_ahead}
 use Rattle.workshop.proofs.work.verdict_told.Statement.{statement}
 use Rattle.workshop.proofs.work.verdict_told.Tie as tie
 
-pub verdict-told-spec : {M : Type 1} → statement M
-verdict-told-spec =
+pub verdict_told_spec : {M : Type 1} → statement M
+verdict_told_spec =
     tie.close
     (tie.spec
-    (λ c. (search rules, (λ xs. search told-live)))
-    (λ c. (search rules, (λ xs. search told-old)))
-    (λ c. (search rules, (λ xs. search told-ahead))))
+    (λ c. (search rules, (λ xs. search told_live)))
+    (λ c. (search rules, (λ xs. search told_old)))
+    (λ c. (search rules, (λ xs. search told_ahead))))

@@ -8,8 +8,8 @@ returns : tie.Need-returns
 unfolding halted
 returns c = refl
 
-pub halted-spec : {M : Type 1} → statement M
-halted-spec =
+pub halted_spec : {M : Type 1} → statement M
+halted_spec =
     tie.close
     (tie.spec
     returns)

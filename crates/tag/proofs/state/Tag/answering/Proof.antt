@@ -8,8 +8,8 @@ returns : tie.Need-returns
 unfolding answering
 returns c = refl
 
-pub answering-spec : {M : Type 1} → statement M
-answering-spec =
+pub answering_spec : {M : Type 1} → statement M
+answering_spec =
     tie.close
     (tie.spec
     returns)

@@ -8,8 +8,8 @@ returns : tie.Need-returns
 unfolding moved
 returns c = refl
 
-pub moved-spec : {M : Type 1} → statement M
-moved-spec =
+pub moved_spec : {M : Type 1} → statement M
+moved_spec =
     tie.close
     (tie.spec
     returns)
