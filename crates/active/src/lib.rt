@@ -1,4 +1,6 @@
 // A frame in ACTIVE: which command it is, and what it does.
+#![tactic(auto)]
+
 ghost use Rattle.std.specs.Prelude.{◌≡◌, ◌≤◌, length};
 ghost use Rattle.tag.specs.Outcome.{Did, Room};
 ghost use Rattle.active.specs.Frame.{length_of, named, command_of, done, in_active};
@@ -8,7 +10,7 @@ use tag::outcome::{Step, lost, nak};
 use tag::state::Tag;
 
 // What a frame asks, with its arguments.
-#[derive(Drop)]
+#[derive(Clone, Copy)]
 pub enum Command {
     Read(u8),
     FastRead(u8, u8),

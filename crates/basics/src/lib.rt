@@ -1,7 +1,13 @@
 // What every crate counts with: a byte as a wider number, two bytes as one number, and a byte's hex digits.
+#![tactic(auto)]
+
+mod runs;
+
 ghost use Rattle.std.specs.Prelude.{◌≡◌, ◌/◌, ◌%◌, ◌<◌};
 ghost use Rattle.basics.specs.Bytes.{low_first, low_byte, high_byte};
 ghost use Rattle.basics.specs.Hex.{hex_char};
+
+pub use runs::{copy, find};
 
 pub fn to_u16(b: u8) -> u16
     ensures { (result ≡ b) × (result < 256) }

@@ -1,5 +1,7 @@
 // The tag's calls under C names, for a controller's firmware: include/corridor_tag.h declares them. Each is the call below it, with its
 // contract. `corridor_bus_event` stands in two_wire, where it is proved.
+#![tactic(auto)]
+
 ghost use Rattle.std.specs.Prelude.{◌≡◌, length};
 ghost use Rattle.image.specs.Layout.{size_of};
 ghost use Rattle.tag.specs.State.{field_off};

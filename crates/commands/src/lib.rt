@@ -1,4 +1,6 @@
 // What WRITE, GET_VERSION, READ_CNT, PWD_AUTH and HLTA do.
+#![tactic(auto)]
+
 ghost use Rattle.std.specs.Prelude.{◌≡◌, false, List, ℕ, ◌+◌, ◌≤◌, ◌<◌, length, set};
 ghost use Rattle.image.specs.Layout.{Fits};
 ghost use Rattle.image.specs.Write.{locked};

@@ -1,4 +1,6 @@
 // Plays the tag on standard input and output: commands in, one a line, and one line out for each.
+#![tactic(auto)]
+
 mod calls;
 mod session;
 
@@ -26,7 +28,7 @@ fn say(out: &[u8], n: usize) -> bool
 }
 
 // What is kept from turn to turn, and how many bytes at the start of `out` the last turn left to be written.
-#[derive(Drop)]
+#[derive(Clone, Copy)]
 struct State {
     input: Input,
     session: Session,
@@ -69,14 +71,14 @@ fn turn(
 }
 
 // How a run ended: with the input; because its output couldn't be written; because its turns were used up.
-#[derive(Drop)]
+#[derive(Clone, Copy)]
 enum Ending {
     Over,
     Unwritten,
     Worn,
 }
 
-#[derive(Drop)]
+#[derive(Clone, Copy)]
 struct Ended {
     ending: Ending,
     state: State,

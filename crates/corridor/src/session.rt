@@ -24,7 +24,7 @@ pub type Memory = [u8; MEMORY_LENGTH];
 
 // All that is kept from line to line beside the image and the data memory themselves: how many bytes the image has, how many are lent for an
 // answer, how many the data memory has, and the two records.
-#[derive(Drop)]
+#[derive(Clone, Copy)]
 pub struct Session {
     pub size: usize,
     pub lent: usize,
@@ -34,14 +34,14 @@ pub struct Session {
 }
 
 // A command that was carried out.
-#[derive(Drop)]
+#[derive(Clone, Copy)]
 pub struct Acted {
     pub session: Session,
     pub told: Answer,
 }
 
 // A line that was answered: by so many bytes, which are none for a line that is skipped.
-#[derive(Drop)]
+#[derive(Clone, Copy)]
 pub struct Responded {
     pub session: Session,
     pub length: usize,

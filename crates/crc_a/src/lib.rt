@@ -1,4 +1,6 @@
 // CRC_A, the check sum of ISO/IEC 14443-3: of a slice, behind the bytes of a buffer, and at a frame's end.
+#![tactic(auto)]
+
 ghost use Rattle.std.specs.Prelude.{◌≡◌, ◌+◌, ◌≤◌, length, take};
 ghost use Rattle.std.proofs.lemmas.List.Edits.{sets};
 ghost use Rattle.crc_a.specs.CrcA.{shifted_by, byte_in, crc_a, sent, crc_right};

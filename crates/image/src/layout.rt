@@ -4,7 +4,7 @@ ghost use Rattle.std.proofs.lemmas.List.Edits.{sets};
 ghost use Rattle.image.specs.Layout.{size_of, byte, four_at, page_at, bytes_of, store, region_of};
 
 // The size that an image's length tells.
-#[derive(Drop)]
+#[derive(Clone, Copy)]
 pub enum Size {
     Pages(usize),
     Unknown,
@@ -22,7 +22,7 @@ pub fn size_of(length: usize) -> Size
 }
 
 // What a page is for.
-#[derive(Drop)]
+#[derive(Clone, Copy)]
 pub enum Region {
     Uid,
     StaticLocks,
@@ -69,7 +69,7 @@ pub fn byte(image: &[u8], page: usize, k: usize) -> u8
 }
 
 // Four bytes, as those of a page.
-#[derive(Drop)]
+#[derive(Clone, Copy)]
 pub struct Four {
     pub b0: u8,
     pub b1: u8,

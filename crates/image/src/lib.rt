@@ -1,4 +1,6 @@
 // What the bytes of an image are.
+#![tactic(auto)]
+
 pub mod layout;
 pub mod mirror;
 pub mod settings;

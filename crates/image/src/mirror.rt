@@ -8,7 +8,7 @@ use crate::settings::count_readable;
 use basics::{high_char, low_char, to_usize};
 
 // `length` characters of the text, from its character `from` on, stand from byte `start` of the image on.
-#[derive(Drop)]
+#[derive(Clone, Copy)]
 pub struct Mirror {
     pub start: usize,
     pub length: usize,

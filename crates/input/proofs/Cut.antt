@@ -9,7 +9,7 @@ use lib.ListN.{length, take, drop, length-take, length-drop, length-append, drop
 use lib.Seq.{take-nil, take_all, take-take, take-append-add, drop-drop, length-take-le}
 use borrow.Author.Tests.{lt-ltb, le-ltb}
 use Rattle.basics.proofs.Choice.{never}
-use Rattle.bytes.specs.Bytes.{index_of, slice}
+use Rattle.basics.specs.Runs.{index_of, slice}
 use Rattle.laying.specs.Parts.{word, Laid}
 use Rattle.input.specs.Lines.{first_line, has_newline}
 use Rattle.input.specs.Reading.{line_room, kept, ahead, Reads, Refills, Advances}

@@ -8,7 +8,7 @@ use lib.Dec.{eqb, ltb}
 use lib.ListN.{length, take, drop}
 use borrow.Author.Tests.{lt-ltb, le-ltb, ltb-true, ltb-false, eqb-true, eqb-false}
 use Rattle.basics.proofs.Choice.{split}
-use Rattle.bytes.specs.Bytes.{index_after, index_of, slice}
+use Rattle.basics.specs.Runs.{index_after, index_of, slice}
 use Rattle.input.specs.Lines.{Program, answer_to, kept_after, first_line, has_newline, behind_line}
 use Rattle.input.specs.Reading.{line_room, kept, ahead, Begins, Advances}
 use Rattle.input.specs.Running.{Typing, came, typed, start, kept_at_end, LongAlike, Stands, Turns, Goes, Reached, AtEnd}

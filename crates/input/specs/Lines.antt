@@ -1,6 +1,6 @@
 -- A program that answers lines, and what is read of its lines before they are judged. Assumes nothing.
 use Rattle.std.specs.Prelude.{ℕ, ◌+◌, ◌-◌, Bool, true, cond, List, [], eqb, ltb, length, take, drop, get_or}
-use Rattle.bytes.specs.Bytes.{index_of}
+use Rattle.basics.specs.Runs.{index_of}
 
 -- "A carriage return at the end of a line is dropped": one, which is 13, before the line is judged
 unfoldable pub unended : List ℕ → List ℕ

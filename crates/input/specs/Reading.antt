@@ -1,6 +1,6 @@
 -- How a program holds the part of its input that it has read. Assumes nothing.
 use Rattle.std.specs.Prelude.{ℕ, ◌≤◌, ◌≡◌, true, false, ◌||◌, List, ◌++◌, eqb, length, take}
-use Rattle.bytes.specs.Bytes.{slice}
+use Rattle.basics.specs.Runs.{slice}
 use Rattle.input.specs.Lines.{first_line, has_newline, behind_line}
 use Rattle.input.specs.declared.Input.{Input}
 

@@ -1,10 +1,12 @@
 // Standard input, line by line. What was read last stands in a chunk, and the line that is being gathered in a line
 // buffer. A line that fills the buffer is too long for a command, and what is behind that is dropped.
+#![tactic(auto)]
+
 ghost use Rattle.std.specs.Prelude.{◌≡◌, ◌++◌, ◌-◌, ◌<◌, ◌≤◌, length, take, drop};
 ghost use Rattle.input.specs.Lines.{unended, is_skipped};
 ghost use Rattle.input.specs.Reading.{Reads, Refills, Begins, Advances, ahead as Reading·ahead};
 
-use bytes::scan::find;
+use basics::find;
 use laying::put;
 
 // Two more than the longest line of any program has: the workshop's, of 18,597 characters.
@@ -16,7 +18,7 @@ pub type Chunk = [u8; 4096];
 
 const STDIN: i32 = 0;
 
-#[derive(Drop)]
+#[derive(Clone, Copy)]
 pub struct Input {
     // the bytes of the chunk from `at` to `end` are still to be looked at
     pub at: usize,

@@ -12,7 +12,7 @@ pub type Sent = [u8; 1100];
 // The longest line that isn't too long.
 const LONGEST: usize = 18597;
 
-#[derive(Drop)]
+#[derive(Clone, Copy)]
 pub enum Verb {
     Screen,
     Reading,
@@ -20,11 +20,11 @@ pub enum Verb {
 }
 
 // A command and its arguments.
-#[derive(Drop)]
+#[derive(Clone, Copy)]
 pub struct Row(pub Verb, pub Shape);
 
 // What a line asks for: a command, and its arguments or why it has none. The bytes stand in a buffer beside it.
-#[derive(Drop)]
+#[derive(Clone, Copy)]
 pub struct Asked {
     pub verb: Verb,
     pub given: Given,

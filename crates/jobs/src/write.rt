@@ -12,7 +12,7 @@ pub type Out = [u8; 2206];
 
 // What a line is answered by: what the screen says, with the watts; an area of so many bytes, which stand in the buffer of the line's bytes; the
 // number of a refusal; the commands; why it is no command.
-#[derive(Drop)]
+#[derive(Clone, Copy)]
 pub enum Answer {
     Live(u32),
     Old(u32),

@@ -1,13 +1,14 @@
 // Laying the line that answers a line into a buffer, part by part: words, numbers, bytes. All that put something at a place answer the place
 // behind it.
+#![tactic(auto)]
+
 ghost use Rattle.std.specs.Prelude.{◌≡◌, ◌∷◌, [], ◌+◌, ◌*◌, ◌/◌, ◌%◌, ◌≤◌, ◌<◌, length, take};
 ghost use Rattle.laying.specs.Parts.{word as Parts·word, flagged as Parts·flagged, number as Parts·number, four as Parts·four, hex as Parts·hex, tail as Parts·tail, letters_of, Laid, Line};
 
-use basics::{high_char, low_char};
-use bytes::copy;
+use basics::{copy, high_char, low_char};
 
 // A word of at most seven letters: how many it has, and the letters.
-#[derive(Drop)]
+#[derive(Clone, Copy)]
 pub struct Letters(pub usize, pub [u8; 7]);
 
 // The first `count` bytes of a text.

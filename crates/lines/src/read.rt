@@ -12,7 +12,7 @@ pub type Sent = [u8; 8192];
 // The longest line that is a command: `parity 65535` with 8,192 bytes.
 const LONGEST: usize = 16397;
 
-#[derive(Drop)]
+#[derive(Clone, Copy)]
 pub enum Verb {
     Image,
     Buffer,
@@ -33,11 +33,11 @@ pub enum Verb {
 }
 
 // A command and its arguments.
-#[derive(Drop)]
+#[derive(Clone, Copy)]
 pub struct Row(pub Verb, pub Shape);
 
 // What a line asks for: a command, and its arguments or why it has none. The bytes stand in a buffer beside it.
-#[derive(Drop)]
+#[derive(Clone, Copy)]
 pub struct Asked {
     pub verb: Verb,
     pub given: Given,

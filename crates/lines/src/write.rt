@@ -16,7 +16,7 @@ pub type Out = [u8; 2080];
 pub type Kilobyte = [u8; 1024];
 
 // The words in which the tag's state and the bus's phase are told.
-#[derive(Drop)]
+#[derive(Clone, Copy)]
 pub enum Word {
     Idle,
     Halt,
@@ -34,7 +34,7 @@ pub enum Word {
 // answer has their count. The two of `tag` end in whether a read was answered, and the second has the state to go back to, and whether it
 // is authenticated; the three of `bus` have the counter, then the high byte, or how many places are gathered. `Page` is a page of an image
 // of so many bytes.
-#[derive(Drop)]
+#[derive(Clone, Copy)]
 pub enum Answer {
     Taken(usize),
     Lent(usize),

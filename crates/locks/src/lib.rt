@@ -1,11 +1,13 @@
 // The two kinds of locks as numbers: which bit locks a page, and which bits a WRITE sets.
+#![tactic(auto)]
+
 ghost use Rattle.std.specs.Prelude.{◌≡◌, ◌+◌, ◌-◌, ◌/◌, ◌%◌, ◌≤◌, ◌<◌};
 ghost use Rattle.locks.specs.Bits.{is_set, of_bits};
 ghost use Rattle.locks.specs.Locks.{Sized, lock_bits, pages_each, lock_of, bit_of, set_in, locked_by, is_bit, clear_at, may_static, static_gain, may_dynamic, dynamic_gain, may_block, block_gain};
 ghost use Rattle.locks.specs.Table.{row_at, first_row, may_row};
 
 // A lock bit: of the static locks, of the dynamic locks, or none.
-#[derive(Drop)]
+#[derive(Clone, Copy)]
 pub enum LockBit {
     Static(usize),
     Dynamic(usize),
@@ -13,7 +15,7 @@ pub enum LockBit {
 }
 
 // First page, last page and block bit of a dynamic lock bit. In four bytes, so that the compiler moves rows by the word.
-#[derive(Drop)]
+#[derive(Clone, Copy)]
 pub struct Row(pub u8, pub u8, pub u16);
 
 // "N=45: twelve bits, two pages each"; "N=135: eight bits, sixteen each, the last only 128-129"; "N=231: fourteen bits, sixteen each,
@@ -63,7 +65,7 @@ fn row_at(k: usize) -> Row
 }
 
 // Where the rows of a size begin, and how many they are. Both are even, so that the two lock bits of a block bit stand in one pair.
-#[derive(Drop)]
+#[derive(Clone, Copy)]
 struct Rows {
     start: usize,
     count: usize,

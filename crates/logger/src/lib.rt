@@ -1,8 +1,10 @@
 // The writer for the logger: a reading of the corridor screen, into a user area that is lent.
+#![tactic(auto)]
+
 ghost use Rattle.std.specs.Prelude.{◌≡◌};
 ghost use Rattle.logger.specs.Writer.{four_of, block_of, written, Wrote};
 
-use bytes::copy;
+use basics::copy;
 use image::layout::Four;
 
 // The refusal: an area with no room for a reading.

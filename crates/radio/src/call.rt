@@ -14,7 +14,7 @@ use tag::state::Tag;
 
 // What the frame call answers: the number of its refusal or 0, the answer's bit count, and the record to keep.
 #[repr(C)]
-#[derive(Drop)]
+#[derive(Clone, Copy)]
 pub struct Answer {
     pub refused: u8,
     pub bits: usize,

@@ -1,4 +1,6 @@
 // The radio side of the tag.
+#![tactic(auto)]
+
 mod call;
 mod hear;
 

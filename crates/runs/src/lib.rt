@@ -1,4 +1,6 @@
 // Runs of the radio side, which the customer's demands speak of. The one function here ties them to the code.
+#![tactic(auto)]
+
 ghost use Rattle.std.specs.Prelude.{length};
 ghost use Rattle.radio.specs.Call.{Met};
 ghost use Rattle.runs.specs.Run.{ours};

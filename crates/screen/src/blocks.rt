@@ -14,14 +14,14 @@ const TERMINATOR: u8 = 0xFE;
 const LONG: u8 = 0xFF;
 
 // Where the bytes begin that a block's length counts, and where they end; or the length or its bytes pass the end.
-#[derive(Drop)]
+#[derive(Clone, Copy)]
 pub enum Span {
     At(usize, usize),
     Passes,
 }
 
 // Where the walk stops: at the first message, by its bytes; without one; at a block that passes the end.
-#[derive(Drop)]
+#[derive(Clone, Copy)]
 pub enum Stop {
     Message(usize, usize),
     Nowhere,

@@ -23,7 +23,7 @@ const FIRST_USER_BYTE: usize = 16;
 // What the screen is to show: the number of a refusal or 0; 1 for a live reading, 2 for an old one and 3 for one ahead, or 0; its watts and
 // its second.
 #[repr(C)]
-#[derive(Drop)]
+#[derive(Clone, Copy)]
 pub struct ScreenAnswer {
     pub refused: u8,
     pub verdict: u8,

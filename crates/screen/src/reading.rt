@@ -9,7 +9,7 @@ use image::layout::{Four, four_at};
 // The most seconds that a live reading is old.
 const LIVE_FOR: u32 = 900;
 
-#[derive(Drop)]
+#[derive(Clone, Copy)]
 pub enum Verdict {
     Live,
     Old,

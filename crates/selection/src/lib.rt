@@ -1,4 +1,6 @@
 // IDLE, HALT, READY1 and READY2: a tag is woken and selected.
+#![tactic(auto)]
+
 ghost use Rattle.std.specs.Prelude.{◌≡◌, true, List, ℕ, ◌+◌, ◌*◌, ◌/◌, ◌%◌, ◌^◌, ◌≤◌, ◌<◌, length, get_or};
 ghost use Rattle.tag.specs.Outcome.{answer_room, Did};
 ghost use Rattle.selection.specs.Selection.{wakes, in_idle, in_halt, forty, own1, own2, sent, asks, known, anticollision, select, in_ready, in_ready1, in_ready2};

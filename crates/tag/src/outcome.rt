@@ -3,12 +3,13 @@ ghost use Rattle.std.specs.Prelude.{◌≡◌, List, ℕ, ◌+◌, ◌^◌, ◌�
 ghost use Rattle.tag.specs.Outcome.{silence, plain, keep, low_bytes, over, does, Did, lost, nak, Acks, Says};
 
 use crate::state::Tag;
+use basics::copy;
 
 // The smallest answer buffer that the frame call takes.
 pub const ANSWER_ROOM: usize = 1024;
 
 // What a frame leaves beside the image and the answer buffer: the answer's bit count, and the tag.
-#[derive(Drop)]
+#[derive(Clone, Copy)]
 pub struct Step {
     pub bits: usize,
     pub tag: Tag,
@@ -56,7 +57,7 @@ pub fn lay(answer: &mut [u8], from: &[u8])
     requires { length from.now ≤ length answer.old }
     ensures { answer.new ≡ over from.now answer.old }
 {
-    bytes::copy(from, answer);
+    copy(from, answer);
 }
 
 // Data: the n bytes that stand at the answer's start, and their CRC_A behind them.

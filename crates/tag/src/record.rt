@@ -6,7 +6,7 @@ use crate::state::{State, Tag, Wait};
 
 // What a board keeps between two calls. Any four numbers may be handed back: those without a meaning count as after field loss.
 #[repr(C)]
-#[derive(Drop)]
+#[derive(Clone, Copy)]
 pub struct TagRecord {
     // 0 IDLE, 1 HALT, 2 READY1, 3 READY2, 4 ACTIVE.
     pub state: u8,

@@ -3,14 +3,14 @@ ghost use Rattle.std.specs.Prelude.{◌≡◌};
 ghost use Rattle.tag.specs.State.{field_off, field_lost, moved, woken, wait_state, back_to_wait, selected, activated, halted, granted, authenticated, answering};
 
 // The state to go back to.
-#[derive(Drop)]
+#[derive(Clone, Copy)]
 pub enum Wait {
     ToIdle,
     ToHalt,
 }
 
 // READY1, READY2 and ACTIVE know the state to go back to, and ACTIVE alone whether it is authenticated.
-#[derive(Drop)]
+#[derive(Clone, Copy)]
 pub enum State {
     Idle,
     Halt,
@@ -100,7 +100,7 @@ impl State {
 }
 
 // The state, and whether a READ or FAST_READ was answered since the field came.
-#[derive(Drop)]
+#[derive(Clone, Copy)]
 pub struct Tag {
     pub state: State,
     pub answered: bool,

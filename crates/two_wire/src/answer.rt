@@ -5,7 +5,7 @@ ghost use Rattle.two_wire.specs.Answer.{answer_of};
 // What an event answers, in numbers: the number of a refused call, else 0; the kind, 0 for nothing, 1 for an acknowledge bit, 2 for a byte;
 // and the bit or the byte.
 #[repr(C)]
-#[derive(Drop)]
+#[derive(Clone, Copy)]
 pub struct BusAnswer {
     pub refused: u8,
     pub kind: u8,
@@ -13,7 +13,7 @@ pub struct BusAnswer {
 }
 
 // What an event answers.
-#[derive(Drop)]
+#[derive(Clone, Copy)]
 pub enum Reply {
     Refused(u8),
     Nothing,

@@ -30,7 +30,7 @@ const BYTE_READ_ACK: u8 = 3;
 const BYTE_READ_LAST: u8 = 4;
 
 // An answer, and the record to keep.
-#[derive(Drop)]
+#[derive(Clone, Copy)]
 pub struct BusStep {
     pub answer: BusAnswer,
     pub bus: BusRecord,

@@ -1,5 +1,7 @@
 // The tag's side of the two wires: what each event that the pin driver sees does to the bus record, the image and the data memory, and what
 // it answers.
+#![tactic(auto)]
+
 mod answer;
 mod event;
 mod gathered;

@@ -5,7 +5,7 @@ ghost use Rattle.two_wire.specs.Record.{number_of, phase_of, holding, at_rest, o
 use crate::window::{FIRST, place_after};
 
 // What the tag waits for.
-#[derive(Drop)]
+#[derive(Clone, Copy)]
 pub enum Phase {
     Rest,
     Device,
@@ -20,7 +20,7 @@ pub enum Phase {
 // byte until the low one comes, and then the count of data bytes; the counter, an address, which is the address sent while data bytes come;
 // and the gathered bytes, each at its place of the 64-byte page.
 #[repr(C)]
-#[derive(Drop)]
+#[derive(Clone, Copy)]
 pub struct BusRecord {
     pub phase: u8,
     pub held: u8,

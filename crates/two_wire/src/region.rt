@@ -6,14 +6,14 @@ use crate::span::{Span, within};
 use crate::window::window;
 
 // A lent buffer.
-#[derive(Drop)]
+#[derive(Clone, Copy)]
 pub enum Buffer {
     Image,
     Memory,
 }
 
 // Addresses, and the buffer that has their bytes.
-#[derive(Drop)]
+#[derive(Clone, Copy)]
 pub struct Region {
     pub buffer: Buffer,
     pub span: Span,

@@ -3,7 +3,7 @@ ghost use Rattle.std.specs.Prelude.{◌≡◌, ◌+◌, ◌<◌, ◌≤◌};
 ghost use Rattle.two_wire.specs.Span.{within, offset, following, counted};
 
 // The first address, how many there are, and how many of the first bytes this side doesn't store.
-#[derive(Drop)]
+#[derive(Clone, Copy)]
 pub struct Span {
     pub first: u16,
     pub length: usize,

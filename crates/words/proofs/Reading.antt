@@ -11,7 +11,7 @@ use lib.ListN.{length, take, drop, set, get_or, drop_of_length-le}
 use lib.Seq.{take-suc-set, take-length, drop-cons}
 use borrow.Author.Tests.{lt-ltb, le-ltb, lt-leb, le-leb, ltb-true, eq-eqb, ne_eqb}
 use Rattle.basics.proofs.Choice.{by}
-use Rattle.bytes.specs.Bytes.{index_of, slice}
+use Rattle.basics.specs.Runs.{index_of, slice}
 use Rattle.words.specs.Word.{word_end, digit_of, with_digit, value_from, number_in, hex_pair, all_pairs, pairs_of, Value, none, value, bytes_in, behind, ends_at}
 use Rattle.words.specs.Pack.{packed_of}
 use Rattle.words.specs.Args.{dashed_in}

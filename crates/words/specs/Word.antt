@@ -1,6 +1,6 @@
 -- One word of a line: where it ends, and the number or the bytes that it is. Assumes nothing.
 use Rattle.std.specs.Prelude.{ℕ, ◌+◌, ◌*◌, ◌-◌, ◌≤◌, Bool, true, false, cond, ◌&&◌, List, [], ◌∷◌, ◌++◌, ltb, leb, length, take, drop}
-use Rattle.bytes.specs.Bytes.{index_of}
+use Rattle.basics.specs.Runs.{index_of}
 use Rattle.words.specs.declared.word.Arg.{Arg}
 use Rattle.words.specs.declared.word.Arg.TheVariants as arg
 

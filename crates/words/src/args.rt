@@ -7,7 +7,7 @@ use crate::word::{Arg, bytes_in, number_in, packed, word_end};
 
 // What an argument is: a number of `least` to `digits` digits, at most `most`; one of two words by their packed numbers, the first as 0 and
 // the second as 1; bytes, at most so many; bytes, or `-` for none.
-#[derive(Drop)]
+#[derive(Clone, Copy)]
 pub enum Kind {
     Nothing,
     Number {
@@ -26,11 +26,11 @@ const DASH: u64 = 0x1_2d;
 
 // The arguments of a command: how many of them must be there, and what each is. No line has more than three, so that a shape that asks for
 // four is that of no command.
-#[derive(Drop)]
+#[derive(Clone, Copy)]
 pub struct Shape(pub usize, pub Kind, pub Kind, pub Kind);
 
 // Arguments as the command takes them; else no such command, not how it is written, or a line too long.
-#[derive(Drop)]
+#[derive(Clone, Copy)]
 pub enum Verdict {
     Good,
     Unknown,
@@ -39,7 +39,7 @@ pub enum Verdict {
 }
 
 // The arguments that a line has: their numbers, or the counts of their bytes, and the end of all their bytes in the buffer.
-#[derive(Drop)]
+#[derive(Clone, Copy)]
 pub struct Given {
     pub verdict: Verdict,
     pub count: usize,

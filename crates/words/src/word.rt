@@ -3,11 +3,10 @@ ghost use Rattle.std.specs.Prelude.{◌≡◌, true, ◌+◌, ◌≤◌, ◌<◌
 ghost use Rattle.words.specs.Pack.{packed_of, readable};
 ghost use Rattle.words.specs.Word.{word_end, digit_of, with_digit, number_in, hex_pair, bytes_in, behind, ends_at, reads, ArgFits};
 
-use basics::{to_u16, to_u64};
-use bytes::scan::find;
+use basics::{find, to_u16, to_u64};
 
 // An argument: its number, or the count of its bytes, and where the bytes that are gathered end with it.
-#[derive(Drop)]
+#[derive(Clone, Copy)]
 pub enum Arg {
     Of(u32, usize),
     None,

@@ -1,4 +1,6 @@
 // Does the workshop's work on images: commands in, one a line, and one line out for each. Nothing is kept from line to line.
+#![tactic(auto)]
+
 mod work;
 
 ghost use Rattle.std.specs.Prelude.{◌≡◌, ◌≤◌, length};
@@ -25,7 +27,7 @@ fn say(out: &[u8], n: usize) -> bool
 }
 
 // Where the input stands, and how many bytes at the start of `out` the last turn left to be written.
-#[derive(Drop)]
+#[derive(Clone, Copy)]
 struct State {
     input: Input,
     said: usize,
@@ -51,14 +53,14 @@ fn turn(bytes: &mut Sent, out: &mut Out, line: &mut Line, chunk: &mut Chunk, sta
 }
 
 // How a run ended: with the input; because its output couldn't be written; because its turns were used up.
-#[derive(Drop)]
+#[derive(Clone, Copy)]
 enum Ending {
     Over,
     Unwritten,
     Worn,
 }
 
-#[derive(Drop)]
+#[derive(Clone, Copy)]
 struct Ended {
     ending: Ending,
     state: State,
