@@ -1,6 +1,6 @@
 -- What each way through the questions shows, and the examples of the layout. Assumes nothing.
 use mathlib.Core.Path.{◌≡◌, refl, ap, ◌∙◌}
-use mathlib.Core.Logic.{inl, inr, ⊎_elim}
+use mathlib.Core.Logic.{◌⊎◌, inl, inr, ⊎_elim}
 use mathlib.Core.List.{List, [], ◌∷◌}
 use mathlib.Core.Bool.{Bool, true, false, cond}
 use Prim.Native.Nat.{ℕ, ◌+◌, ◌-◌, ◌*◌, ◌/◌, ◌%◌, ◌≤◌, ◌<◌}
@@ -9,9 +9,6 @@ use native.Mathlib.Omega.{arith}
 use lib.Bits.{bit_xor}
 use lib.Dec.{eqb, ltb}
 use lib.ListN.{length, get_or}
-use types.Run.{OneOf}
-use denote.Enum.Declared.{declared, tag_of}
-use borrow.Enum.Known.{lives_at}
 use borrow.Author.Tests.{eqb-true, ne_eqb, lt-ltb, le-ltb, lt-leb, le-leb}
 use Rattle.basics.specs.Bytes.{low_first}
 use Rattle.basics.proofs.Choice.{by, not_not}
@@ -25,7 +22,6 @@ use Rattle.image.specs.Uid.{uid, cascade_tag, bcc0, bcc1, UidExample}
 use Rattle.image.specs.Shown.{shown, shown_page}
 use Rattle.image.specs.Write.{statics, dynamics, locked_by, written_in, written, write}
 use Rattle.image.specs.Tail.{counter_in, next_count, counted}
-use Rattle.image.specs.contracts.layout.Region.{enum}
 use Rattle.image.specs.declared.layout.Four.{Four}
 use Rattle.image.specs.declared.layout.Size.{Size}
 use Rattle.image.specs.declared.layout.Size.TheVariants.{Pages, Unknown}
@@ -159,20 +155,13 @@ pub write_by : (n p : ℕ) (img img' : List ℕ) (old d after : Four) (region re
 unfolding write written
 write_by n p img img' old d after region region' e f g h k = rw (← f, g, ← e, ← h) k
 
--- in the regions 0, 3, 5, 6 and 7
 pub write_replaces : (n p : ℕ) (img img' : List ℕ) (d : Four) (region : Region) → region ≡ region_of n p
-    → OneOf (0 ∷ 3 ∷ 5 ∷ 6 ∷ 7 ∷ []) (tag_of (declared enum) region) → img' ≡ store img p d → img' ≡ write n img p d
+    → (region ≡ Uid) ⊎ ((region ≡ User) ⊎ ((region ≡ Settings) ⊎ ((region ≡ Password) ⊎ (region ≡ Outside)))) → img' ≡ store img p d → img' ≡ write n img p d
 unfolding written_in
 write_replaces n p img img' d region e k h =
     ⊎_elim
-    (λ t. by Uid (λ old. refl) (lives_at enum region 0 t).1)
-    (⊎_elim
-    (λ t. by User (λ old. refl) (lives_at enum region 3 t).1)
-    (⊎_elim
-    (λ t. by Settings (λ old. refl) (lives_at enum region 5 t).1)
-    (⊎_elim
-    (λ t. by Password (λ old. refl) (lives_at enum region 6 t).1)
-    (λ t. by Outside (λ old. refl) (lives_at enum region 7 t).1))))
+    (by Uid (λ old. refl))
+    (⊎_elim (by User (λ old. refl)) (⊎_elim (by Settings (λ old. refl)) (⊎_elim (by Password (λ old. refl)) (by Outside (λ old. refl)))))
     k
   where
     by : (region' : Region) → ((old : Four) → d ≡ written_in region' n old d) → region ≡ region' → img' ≡ write n img p d
