@@ -29,11 +29,6 @@ over_over a b c =
     rw (length-append a c) (drop-append-add a (drop (length a) b) (length c) ∙ drop-drop (length c) (length a) b)
     )
 
--- all of bs was copied to the buffer's start
-pub lay_done : (bs d answer : List ℕ) → answer ≡ take (length bs) bs ++ drop (length bs) d → answer ≡ over bs d
-unfolding over
-lay_done bs d answer e = rw (take-length bs) at e
-
 -- ---- a list that is built into the front of a buffer
 
 pub length_build : (f : ℕ → ℕ) (k : ℕ) → length (build f k) ≡ k

@@ -1,0 +1,18 @@
+use mathlib.Core.Path.{◌≡◌}
+use Prim.Native.Nat.{◌+◌, ◌-◌, ◌*◌, ◌%◌, ◌≤◌, ◌<◌}
+use lib.ListN.{length}
+use borrow.Author.Rules.{rules}
+use Rattle.image.specs.Mirror.{through}
+use Rattle.reads.specs.Read.{page_byte}
+use Rattle.tag.proofs.Laws.{laid}
+use Rattle.reads.proofs.Laws.{page_first, page_next, mirrored_turn, pages_length, pages_end}
+use Rattle.reads.proofs.lay_mirrored.Goals as goal
+
+pub loop-i-init : goal.loop-i-init
+loop-i-init c = (search rules, search page_first, search rules, search rules, search rules)
+
+pub loop-i-preserved : goal.loop-i-preserved
+loop-i-preserved c = (search rules, search page_next, search rules, search mirrored_turn, search pages_length)
+
+pub returns : goal.returns
+returns c = search pages_end

@@ -1,0 +1,11 @@
+-- `tag::record::flag` meets its contract. Assumes nothing.
+use Rattle.tag.specs.Record.{flag_of}
+use Rattle.tag.proofs.record.flag.Goals as goal
+
+pub returns-then-b : goal.returns-then-b
+unfolding flag_of
+returns-then-b c = rw c.if-b.true
+
+pub returns-else-b : goal.returns-else-b
+unfolding flag_of
+returns-else-b c = rw c.if-b.false
