@@ -1,6 +1,5 @@
 -- Where a byte first stands, one place at a time. Assumes nothing.
-use Rattle.std.proofs.Common.{◌≡◌, ◌∙◌, ap, ap₂, sym, ℕ, suc, ◌+◌, ◌<◌, ◌≤◌, Bool, true, false, eqb, List, [], ◌∷◌, length, take, drop, get_or, arith, drop-cons, length-take, add-one, get_or-take, drop_of_length-le}
-use native.Mathlib.Nat.{add-suc}
+use Rattle.std.proofs.Common.{◌≡◌, ap, ℕ, suc, ◌+◌, ◌<◌, ◌≤◌, List, ◌∷◌, length, take, drop, get_or, arith, drop-cons, length-take, add-one, get_or-take, drop_of_length-le}
 use borrow.Author.Tests.{eq-eqb, ne_eqb}
 use Rattle.basics.specs.Runs.{slice, index_after, index_of}
 

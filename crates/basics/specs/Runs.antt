@@ -1,5 +1,5 @@
 -- Runs of bytes: a part of a list, and where a byte first stands in one. Assumes nothing.
-use Rattle.std.specs.Prelude.{ℕ, zero, suc, ◌-◌, Bool, true, false, List, [], ◌∷◌, eqb, take, drop}
+use Rattle.std.specs.Prelude.{ℕ, suc, Bool, true, false, List, [], ◌∷◌, eqb, take, drop}
 
 -- the bytes from the one place up to the other
 unfoldable pub slice : ℕ → ℕ → List ℕ → List ℕ

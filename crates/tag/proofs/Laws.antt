@@ -6,7 +6,7 @@ use native.Mathlib.Nat.{not-suc-le-zero, le_of_suc-le-suc, pow-suc, div-div-eq-d
 use native.Mathlib.Numerals.{add-one}
 use native.Mathlib.Omega.{arith}
 use lib.ListN.{length, take, drop, set, length-append}
-use lib.Seq.{take-length, sets, sets-eq, set_split, take_at, drop-drop, drop-append-add, length-take-le}
+use lib.Seq.{sets, sets-eq, set_split, take_at, drop-drop, drop-append-add, length-take-le}
 use Rattle.image.proofs.Stored.{length_store}
 use Rattle.crc_a.specs.CrcA.{crc_a, sent, with_crc}
 use Rattle.tag.specs.State.{moved, back_to_wait}

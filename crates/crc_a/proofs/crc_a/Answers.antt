@@ -1,8 +1,6 @@
-use mathlib.Core.Path.{◌≡◌, refl}
-use Prim.Native.Nat.{◌-◌, ◌%◌, ◌≤◌}
-use lib.ListN.{length, drop}
+use mathlib.Core.Path.{refl}
 use borrow.Author.Rules.{rules}
-use Rattle.crc_a.specs.CrcA.{start, bytes_in, crc_a}
+use Rattle.crc_a.specs.CrcA.{start, crc_a}
 use Rattle.crc_a.proofs.Laws.{four_turn, two_more_lem, none_more, last_byte, no_byte}
 use Rattle.crc_a.proofs.crc_a.Goals as goal
 use Rattle.crc_a.proofs.crc_a.Goals.{then-n-ge2, else-n-ge2}

@@ -1,11 +1,8 @@
 -- `crc_a::crc_a` meets its contract. The invariant: the bytes that are left, from the register so far, come to the whole's. Assumes nothing.
-use mathlib.Core.Path.{◌≡◌, refl}
-use mathlib.Core.Logic.{⊎_elim}
+use mathlib.Core.Path.{◌≡◌}
 use Prim.Native.Nat.{◌-◌, ◌%◌, ◌≤◌}
 use lib.ListN.{length, drop}
-use borrow.Author.Rules.{rules}
-use Rattle.crc_a.specs.CrcA.{start, bytes_in, crc_a}
-use Rattle.crc_a.proofs.Laws.{four_turn, two_more_lem, none_more, last_byte, no_byte}
+use Rattle.crc_a.specs.CrcA.{bytes_in, crc_a}
 use Rattle.crc_a.proofs.crc_a.Given as goal
 
 abbrev pub invariant-loop-i : goal.invariant-loop-i

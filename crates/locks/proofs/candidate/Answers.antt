@@ -1,5 +1,4 @@
 -- `locks::candidate` meets its contract: each size's pages to a bit compute. Assumes nothing.
-use borrow.Author.Rules.{rules}
 use native.Mathlib.Omega.{arith}
 use Rattle.std.proofs.lemmas.Grind.{common_steps}
 use Rattle.locks.specs.Locks.{pages_each}

@@ -1,5 +1,5 @@
 use mathlib.Core.Path.{◌≡◌, ◌∙◌, refl, ap}
-use Prim.Native.Nat.{ℕ, ◌+◌, ◌-◌, ◌*◌, ◌^◌, ◌<◌, ◌≤◌}
+use Prim.Native.Nat.{ℕ, ◌+◌, ◌-◌, ◌*◌}
 use native.Mathlib.Omega.{arith}
 use borrow.Author.Rules.{rules}
 use Rattle.locks.specs.Bits.{of_bits}
@@ -8,7 +8,7 @@ use Rattle.locks.specs.Table.{row_for, row_at, may_row}
 use Rattle.locks.proofs.Bits.{gathered_none, gathered_more, gathered_all, gathered_lt}
 use Rattle.locks.proofs.Gains.{clear≤1}
 use Rattle.locks.proofs.Lock.{block_lt, pair_may}
-use Rattle.locks.proofs.Table.{rows, copy_at}
+use Rattle.locks.proofs.Table.{copy_at}
 use Rattle.locks.proofs.row_mask.Goals as goal
 
 pub loop-i-init : goal.loop-i-init

@@ -1,4 +1,4 @@
-use Rattle.std.proofs.Common.{arith, rules}
+use Rattle.std.proofs.Common.{arith}
 use Rattle.basics.proofs.Standing.{stands_here, stands_later, stands_nowhere}
 use Rattle.basics.proofs.runs.find.Goals as goal
 

@@ -1,5 +1,4 @@
 -- `image::write::write` meets its contract. Assumes nothing.
-use borrow.Author.Rules.{rules}
 use Rattle.image.specs.Write.{written_in}
 use Rattle.image.proofs.Laws.{write_by, write_replaces}
 use Rattle.image.proofs.write.write.Goals as goal

@@ -1,10 +1,8 @@
-use mathlib.Core.Path.{◌≡◌, refl}
-use Prim.Native.Nat.{◌-◌, ◌/◌, ◌^◌, ◌≤◌}
+use mathlib.Core.Path.{refl}
 use native.Mathlib.Omega.{arith}
-use lib.ListN.{length}
 use borrow.Author.Rules.{rules}
-use Rattle.tag.specs.Outcome.{byte_of, low_bytes}
-use Rattle.tag.proofs.Laws.{laid, laid_end, byte_turn, byte_next}
+use Rattle.tag.specs.Outcome.{low_bytes}
+use Rattle.tag.proofs.Laws.{laid_end, byte_turn, byte_next}
 use Rattle.tag.proofs.outcome.lay_number.Goals as goal
 
 pub loop-i-init : goal.loop-i-init

@@ -1,11 +1,9 @@
 -- `tag::outcome::lay_number` meets its contract. The invariant: the first i bytes are laid over the answer, and the rest is left. Assumes nothing.
-use mathlib.Core.Path.{◌≡◌, refl}
+use mathlib.Core.Path.{◌≡◌}
 use Prim.Native.Nat.{◌-◌, ◌/◌, ◌^◌, ◌≤◌}
-use native.Mathlib.Omega.{arith}
 use lib.ListN.{length}
-use borrow.Author.Rules.{rules}
-use Rattle.tag.specs.Outcome.{byte_of, low_bytes}
-use Rattle.tag.proofs.Laws.{laid, laid_end, byte_turn, byte_next}
+use Rattle.tag.specs.Outcome.{byte_of}
+use Rattle.tag.proofs.Laws.{laid}
 use Rattle.tag.proofs.outcome.lay_number.Given as goal
 
 abbrev pub invariant-loop-i : goal.invariant-loop-i

@@ -1,7 +1,6 @@
 -- `tag::record::state_of` meets its contract. Assumes nothing.
 use native.Mathlib.Omega.{arith}
 use Rattle.std.proofs.lemmas.Grind.{common_steps}
-use borrow.Author.Tests.{ne_eqb}
 use Rattle.tag.specs.Record.{state_of}
 use Rattle.tag.proofs.record.state_of.Goals as goal
 

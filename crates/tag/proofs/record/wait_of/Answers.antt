@@ -1,7 +1,6 @@
 -- `tag::record::wait_of` meets its contract. Assumes nothing.
 use native.Mathlib.Omega.{arith}
 use Rattle.std.proofs.lemmas.Grind.{common_steps}
-use borrow.Author.Tests.{ne_eqb}
 use Rattle.tag.specs.Record.{wait_of}
 use Rattle.tag.proofs.record.wait_of.Goals as goal
 
