@@ -1,5 +1,5 @@
 # What the scripts know of the Rattle kit. Sourced with `name`, the script's name, and `root`, the repository's folder. Sets rt, the kit's
-# command; kit, its folder; toolchain, its folder for this machine; and emulator, empty where the machine runs x86-64 programs itself.
+# command; kit, its folder; and toolchain, the folder of its compiler and C library, which are for x86-64.
 
 fail() {
     printf '%s: %s\n' "$name" "$*" >&2
@@ -7,18 +7,14 @@ fail() {
 }
 
 rt=$(command -v rt) || fail "the Rattle kit's command rt is not in PATH"
-kit=$(readlink -f "${RATTLE_HOME:-$(dirname "$(dirname "$(readlink -f "$rt")")")}") || fail "RATTLE_HOME names no folder"
-toolchain=$kit/on/$(uname -m)/toolchain
-[ -d "$toolchain" ] || fail "no toolchain for this machine at $toolchain (RATTLE_HOME names the kit's folder)"
-emulator=$toolchain/bin/qemu-x86_64
-[ -x "$emulator" ] || emulator=
-for variable in $(env | sed -n 's/^\(QEMU_[A-Za-z0-9_]*\)=.*/\1/p'); do
-    unset "$variable"
-done
+kit=$(dirname "$(dirname "$(readlink -f "$rt")")")
+toolchain=$kit/toolchain
+[ -d "$toolchain" ] || fail "the kit has no toolchain at $toolchain"
+[ "$(uname -m)" = x86_64 ] || fail "the kit's programs are for x86-64, and this machine is $(uname -m)"
 
 # Whether a file is there, and no source of the crates is newer.
 is_new() {
-    [ -f "$1" ] && [ -z "$(find "$root/crates" "$root/crates.txt" -newer "$1" 2>/dev/null | head -n 1)" ]
+    [ -f "$1" ] && [ -z "$(find "$root/crates" "$root/crates.txt" -name out -prune -o -type f -newer "$1" -print 2>/dev/null | head -n 1)" ]
 }
 
 # How many crates of the repository have to be proved for one: itself, and all that it stands on.
@@ -38,15 +34,19 @@ crates_for() {
 
 # Reads what rt says as it says it, and tells on standard error which crate of how many is proved.
 progress() {
-    total=$1 at=0
+    total=$1 at=0 crate=
     while IFS= read -r line; do
-        said=${line#rt: }
         case $line in
-        'rt: '*' proved ('* | 'rt: target/staticlib/'*)
-            at=$((at + 1))
-            printf '%s: %s of %s proved: %s\n' "$name" "$at" "$total" "$(printf '%s\n' "$said" | sed -e 's/ proved (/ (/' -e 's/ has the functions of .*//')" >&2
+        'rt: chose '*) ;;
+        'rt: '*) printf '%s: %s\n' "$name" "${line#rt: }" >&2 ;;
+        'fn '*::* | 'struct '*::* | 'enum '*::*)
+            crate=${line#* }
+            crate=${crate%%::*}
             ;;
-        'rt: '*) printf '%s: %s\n' "$name" "$said" >&2 ;;
+        'logic=proved '*)
+            at=$((at + 1))
+            printf '%s: %s of %s proved: %s\n' "$name" "$at" "$total" "$crate" >&2
+            ;;
         esac
     done
 }
@@ -60,41 +60,41 @@ still_at_work() {
     done
 }
 
-# prove WHAT COMMAND CRATE: says what is made, and runs rt, which proves the crate and all that it stands on. What rt says of each crate goes to
-# standard error as it comes, and where rt fails all of it. A crate takes 12 to 24 seconds in the mean, and up to a minute on a busy machine.
+# prove WHAT COMMAND CRATE: says what is made, and runs rt in the crate's folder, which proves the crate and all that it stands on. What rt says of
+# each crate goes to standard error as it comes, and where rt fails all of it. rt keeps what it proved in the crates' out/, and proves what changed.
 prove() {
     total=$(crates_for "$3")
-    printf '%s: %s: %s crates are proved first, in %s to %s minutes from nothing, or up to %s on a busy machine\n' "$name" "$1" \
-        "$total" $(((total + 4) / 5)) $(((2 * total + 4) / 5)) "$total" >&2
-    shift
+    printf '%s: %s: %s crates are proved first where they are not yet, in %s to %s minutes from nothing\n' "$name" "$1" \
+        "$total" $(((total + 2) / 3)) $((total * 3 / 4 + 1)) >&2
     mkdir -p "$root/target" || fail "no folder could be made at $root/target"
-    log=$root/target/$2.said
+    log=$root/target/$3.said
     rm -f "$log.proved"
     still_at_work &
     worker=$!
-    (cd "$root" && "$rt" "$@" </dev/null 2>&1 && : >"$log.proved") | tee "$log" | progress "$total"
+    (cd "$root/crates/$3" && "$rt" "$2" </dev/null 2>&1 && : >"$log.proved") | tee "$log" | progress "$total"
     { kill "$worker" && wait "$worker"; } 2>/dev/null || true
     if [ ! -f "$log.proved" ]; then
         cat "$log" >&2
-        fail "'rt $*' failed"
+        fail "'rt $2' failed in crates/$3"
     fi
     rm -f "$log" "$log.proved"
 }
 
-# build_program CRATE: has the crate's program built where it isn't yet, or where its sources are newer. Sets `program`, its file.
+# build_program CRATE: has the crate's program built where it isn't yet, or where its sources are newer. Sets `program`, its file. `rt run` builds a
+# program and runs it, here on no input, which ends it at once.
 build_program() {
-    program=$root/target/bin/$1
+    program=$root/crates/$1/out/$1
     built=$root/target/$1-built
     if [ ! -x "$program" ] || [ "$program" -nt "$built" ] || ! is_new "$built"; then
-        prove 'building the program' check "$1"
+        prove 'building the program' run "$1"
         : >"$built"
     fi
 }
 
 # run_program HINT..: runs `program`, which plays lines on standard input and output, and exits with its status. A person at a terminal is told
 # how to begin, in so many lines more as there are hints. A closed pipe is an error of the program's write, and not its silent end. A program
-# in Rattle has no exit status of its own to give: what it says on standard error, with its name in front, says that it failed. Programs are for
-# x86-64, and run with the kit's C library.
+# in Rattle has no exit status of its own to give: what it says on standard error, with its name in front, says that it failed. It runs with the
+# kit's C library.
 run_program() {
     if [ -t 0 ]; then
         for hint in 'type a line; "help" names the commands, Ctrl-D ends' "$@"; do
@@ -104,7 +104,7 @@ run_program() {
     trap '' PIPE
     { :; } 2>/dev/null 3>&1 || fail 'standard output is closed'
     exec 3>&1
-    said=$(${emulator:+"$emulator"} "$toolchain/lib/ld-linux-x86-64.so.2" --library-path "$toolchain/lib" "$program" 2>&1 >&3 3>&-)
+    said=$("$toolchain/lib/ld-linux-x86-64.so.2" --library-path "$toolchain/lib" "$program" 2>&1 >&3 3>&-)
     status=$?
     [ -z "$said" ] || printf '%s\n' "$said" >&2
     case $said in

@@ -1,30 +1,29 @@
 -- What the mirror means for a reader. Assumes nothing.
 use mathlib.Core.Path.{◌≡◌, refl, sym, ap, ◌∙◌}
 use mathlib.Core.Logic.{◌≢◌}
-use mathlib.Core.List.{List, ◌∷◌}
-use mathlib.Core.Bool.{Bool, true, false, not, cond, ◌&&◌, ◌||◌}
+use mathlib.Core.List.{List}
+use mathlib.Core.Bool.{Bool, true, false, cond, ◌&&◌, ◌||◌}
 use Prim.Native.Nat.{ℕ, zero, suc, ◌+◌, ◌-◌, ◌*◌, ◌/◌, ◌%◌, ◌≤◌, ◌<◌}
 use native.Mathlib.Nat.{le_of_suc-le-suc, not-suc-le-zero}
 use native.Mathlib.Omega.{arith}
 use lib.Dec.{leb, ltb}
-use lib.ListN.{length, get_or}
+use lib.ListN.{get_or}
 use borrow.Author.Tests.{lt-ltb, le-leb, leb-true, ltb-true}
 use Rattle.basics.proofs.Choice.{by, and_left, and_right}
 use Rattle.locks.specs.Locks.{lock_page}
 use Rattle.image.specs.declared.layout.Four.{Four}
 use Rattle.image.specs.declared.layout.Region.TheVariants.{User}
 use Rattle.image.specs.declared.mirror.Mirror.{Mirror}
-use Rattle.image.specs.Layout.{Fits, byte, page_at, bytes_of, store, first_settings, second_settings, region_of}
-use Rattle.image.specs.Settings.{auth0, access, prot, counter_on, count_readable}
+use Rattle.image.specs.Layout.{Fits, page_at, first_settings, second_settings, region_of}
+use Rattle.image.specs.Settings.{auth0, access, count_readable}
 use Rattle.image.specs.Shown.{shown}
-use Rattle.image.specs.Tail.{counted}
 use Rattle.image.specs.Mirror as mirror
 use Rattle.image.specs.Mirror.{wanted, text, allowed, mirror_for, replaced, through}
 use Rattle.image.proofs.Laws.{in_user}
-use Rattle.image.proofs.Stored.{page_same, page_other, byte_other, byte_same}
+use Rattle.image.proofs.Stored.{page_same, page_other}
 use Rattle.tag.specs.declared.state.Tag.{Tag}
-use Rattle.tag.specs.State.{authenticated, answering}
-use Rattle.tag.specs.Outcome.{build, Effect, keep, put, bits_of, Does, nak, nak_after, says}
+use Rattle.tag.specs.State.{authenticated}
+use Rattle.tag.specs.Outcome.{build, bits_of, Does, nak, says}
 use Rattle.reads.specs.Read.{bound, seen, page_byte, pages_by, pages_from, counting, read_answered, read, fast_read}
 use Rattle.reads.specs.Mirrored.{none, without, Alike, Mirrored, Untouched}
 use Rattle.reads.proofs.Laws.{length_pages, unmirrored_pages}

@@ -1,5 +1,4 @@
 -- `commands::count_wrong` meets its contract. Assumes nothing.
-use borrow.Author.Rules.{rules}
 use Rattle.commands.proofs.Laws.{one_more_fits, wrong_counted_lem, wrong_free}
 use Rattle.commands.proofs.count_wrong.Goals as goal
 

@@ -1,7 +1,6 @@
 -- `commands::size_code` meets its contract. Assumes nothing.
 use native.Mathlib.Omega.{arith}
 use Rattle.std.proofs.lemmas.Grind.{common_steps}
-use borrow.Author.Tests.{ne_eqb}
 use Rattle.commands.specs.Commands.{size_code}
 use Rattle.commands.proofs.size_code.Goals as goal
 

@@ -1,5 +1,4 @@
 -- `commands::version` meets its contract. Assumes nothing.
-use borrow.Author.Rules.{rules}
 use Rattle.commands.proofs.Laws.{version_done}
 use Rattle.commands.proofs.version.Goals as goal
 

@@ -2,11 +2,9 @@
 use mathlib.Core.Path.{◌≡◌}
 use Prim.Native.Nat.{◌+◌, ◌-◌, ◌*◌, ◌%◌, ◌≤◌, ◌<◌}
 use lib.ListN.{length}
-use borrow.Author.Rules.{rules}
 use Rattle.image.specs.Mirror.{through}
 use Rattle.reads.specs.Read.{page_byte}
 use Rattle.tag.proofs.Laws.{laid}
-use Rattle.reads.proofs.Laws.{page_first, page_next, mirrored_turn, pages_length, pages_end}
 use Rattle.reads.proofs.lay_mirrored.Given as goal
 
 abbrev pub invariant-loop-i : goal.invariant-loop-i
