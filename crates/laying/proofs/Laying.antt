@@ -11,7 +11,7 @@ use lib.Seq.{take-suc, take-suc-set, take-length, take_at, length-take-le}
 use borrow.Author.Tests.{lt-ltb, le-ltb}
 use Rattle.basics.specs.Hex.{hex_char, hex_of}
 use Rattle.io.specs.Digits.{last_digits, hex_digit_ascii, IsDigitCount}
-use Rattle.laying.specs.Parts.{decimal_in, decimal, Part, word, flagged, number, four, hex, tail, part_text, line_text, Laid, Line}
+use Rattle.laying.specs.Parts.{decimal_in, decimal, Part, word, flagged, number, hex, tail, part_text, line_text, Laid, Line}
 
 -- ---- a line is its parts, one behind the other: whatever the parts are
 
@@ -75,12 +75,12 @@ front xs n = let p : n - 0 ≡ n = omega arith in ap (λ (k : ℕ). take k xs) p
 pub by_front : {A : Type 0} (f : List ℕ → A) (xs : List ℕ) (n : ℕ) (x : A) → x ≡ f (take (n - 0) (drop 0 xs)) → x ≡ f (take n xs)
 by_front f xs n x e = e ∙ ap f (front xs n)
 
--- a text that the library copied to a part of the buffer as long as it is
-copied : (s part m : List ℕ) → length m ≤ length s → part ≡ take (length s) s ++ drop (length s) m → part ≡ s
-copied s part m h e = e ∙ ap₂ (λ (x y : List ℕ). x ++ y) (take-length s) (drop_of_length-le m h) ∙ append-nil s
+-- a text that `basics::copy` laid over a part of the buffer as long as it is
+copied : (s part m : List ℕ) → length m ≤ length s → part ≡ s ++ drop (length s) m → part ≡ s
+copied s part m h e = e ∙ ap (λ (x : List ℕ). s ++ x) (drop_of_length-le m h) ∙ append-nil s
 
 pub put_copied : (text out part : List ℕ) (at count : ℕ) → count ≤ length text → at + count ≤ length out
-    → part ≡ take (length (take (count - 0) (drop 0 text))) (take (count - 0) (drop 0 text)) ++ drop (length (take (count - 0) (drop 0 text))) (take (at + count - at) (drop at out))
+    → part ≡ take (count - 0) (drop 0 text) ++ drop (length (take (count - 0) (drop 0 text))) (take (at + count - at) (drop at out))
     → Laid (word (take count text)) at (at + count) out (put_mid at (at + count - at) out part)
 put_copied text out part at count h k e =
     let s = take (count - 0) (drop 0 text) in
