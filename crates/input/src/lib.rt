@@ -1,4 +1,4 @@
-// Standard input, line by line. What was read last stands in a chunk, and the line that is being gathered in a line
+// The input of a program, line by line, from any reader. What was read last stands in a chunk, and the line that is being gathered in a line
 // buffer. A line that fills the buffer is too long for a command, and what is behind that is dropped.
 #![tactic(auto)]
 
@@ -8,6 +8,7 @@ ghost use Rattle.input.specs.Reading.{Reads, Refills, Begins, Advances, ahead as
 
 use basics::find;
 use laying::put;
+use std::io::Read;
 
 // Two more than the longest line of any program has: the workshop's, of 18,597 characters.
 pub const ROOM: usize = 18599;
@@ -15,8 +16,6 @@ pub const ROOM: usize = 18599;
 pub type Line = [u8; ROOM];
 
 pub type Chunk = [u8; 4096];
-
-const STDIN: i32 = 0;
 
 #[derive(Clone, Copy)]
 pub struct Input {
@@ -46,11 +45,13 @@ fn append(line: &mut [u8], len: usize, chunk: &[u8], from: usize, to: usize) -> 
 }
 
 // Reads once, and answers how many bytes of the chunk that gave: none at the end of the input, or where the read fails.
-fn read_some(chunk: &mut Chunk) -> usize
+fn read_some<R: Read>(reader: &mut R, chunk: &mut Chunk) -> usize
     ensures { (result ≤ 4096) × (result ≤ length chunk.new) }
 {
-    let got = libc::read(STDIN, chunk);
-    io::count(got, chunk)
+    match reader.read(chunk) {
+        Ok(n) => n,
+        Err(_) => 0,
+    }
 }
 
 impl Input {
@@ -78,14 +79,14 @@ impl Input {
     }
 
     // One step: the rest of the chunk up to a newline, or, where nothing is left of it, one read.
-    pub fn advance(self, line: &mut Line, chunk: &mut Chunk) -> Self
+    pub fn advance<R: Read>(self, reader: &mut R, line: &mut Line, chunk: &mut Chunk) -> Self
         requires { Reads self }
         ensures { Advances (take self.len line.old) (Reading·ahead self chunk.old) result line.new chunk.new }
     {
         if self.at < self.end {
             return self.gather(line, chunk);
         }
-        let n = read_some(chunk);
+        let n = read_some(reader, chunk);
         self.refilled(n)
     }
 
