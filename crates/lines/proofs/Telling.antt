@@ -1,35 +1,15 @@
 -- Laws of the line that answers a line. Assumes nothing.
 use Prim.Native.Nat.{ℕ, ◌+◌, ◌-◌, ◌*◌, ◌<◌, ◌≤◌}
 use mathlib.Core.Path.{◌≡◌, ap, sym, subst, ◌∙◌}
-use mathlib.Core.List.{List, [], ◌++◌, append-nil}
+use mathlib.Core.List.{List, ◌++◌, append-nil}
 use native.Mathlib.Omega.{arith}
-use lib.ListN.{length, take, drop, length-take, length-drop, drop_of_length-le}
+use lib.ListN.{length, take, drop, length-take, drop_of_length-le}
 use lib.Seq.{length-take-le, take_all, take-add, drop_at}
 use Rattle.basics.proofs.Choice.{by_case}
-use Rattle.laying.specs.Parts.{word, tail, part_text, letters_of, Laid, Line}
+use Rattle.laying.specs.Parts.{word, tail, part_text, letters_of, Laid}
 use Rattle.laying.specs.declared.Letters.{Letters}
-use Rattle.lines.specs.Told.{word_text, page_in, parts_of, tells, AnswerFits}
+use Rattle.lines.specs.Told.{word_text, page_in}
 use Rattle.lines.specs.declared.write.Word.{Word}
-use Rattle.lines.specs.declared.write.Answer.{Answer}
-use Rattle.lines.specs.declared.write.Answer.TheVariants as answer
-
--- an answer that is known to be one of the answers
-module _ (told k : Answer) (e : told ≡ k) where
-  pub told_by : (buf img out : List ℕ) (r : ℕ) → Line (parts_of (tells k buf img)) r out → Line (parts_of (tells told buf img)) r out
-  told_by buf img out r l = subst (λ (a : Answer). Line (parts_of (tells a buf img)) r out) (sym e) l
-
-module _ (told : Answer) (fits : AnswerFits told) where
-  pub bits_fit : (n : ℕ) → told ≡ answer.Bits n → n ≤ 8192
-  bits_fit n e = subst AnswerFits e fits
-
-  pub shown_fits : (n : ℕ) → told ≡ answer.Shown n → n ≤ 1024
-  shown_fits n e = subst AnswerFits e fits
-
-  pub recalled_fits : (n : ℕ) → told ≡ answer.Recalled n → n ≤ 1024
-  recalled_fits n e = subst AnswerFits e fits
-
-  pub page_fits : (p n : ℕ) → told ≡ answer.Page p n → n ≤ 1024
-  page_fits p n e = subst AnswerFits e fits
 
 -- ---- words
 
