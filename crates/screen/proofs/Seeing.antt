@@ -6,7 +6,7 @@ use Prim.Native.Nat.{ℕ, ◌+◌, ◌-◌, ◌≤◌, ◌<◌}
 use native.Mathlib.Omega.{arith}
 use lib.Dec.{eqb}
 use lib.ListN.{length, get_or}
-use borrow.Author.Tests.{ne_eqb, eqb-true, not_true, not-false, lt-ltb, le-ltb, le-leb, lt-leb}
+use borrow.Author.Tests.{ne_eqb, eqb-true, not-true, not-false, lt-ltb, le-ltb, le-leb, lt-leb}
 use Rattle.basics.proofs.Choice.{and_left}
 use Rattle.image.specs.declared.layout.Four.{Four}
 use Rattle.image.specs.declared.layout.Size.{Size}
@@ -63,7 +63,7 @@ module _ (present second : ℕ) where
 module _ (m : List ℕ) (b : Bool) (e : b ≡ is_reading m) where
   pub no_reading : (present : ℕ) (r : ScreenAnswer) → not b ≡ true → r ≡ answer_of (refused 22) → r ≡ answer_of (reading_seen m present)
   unfolding reading_seen
-  no_reading present r h f = rw (← e, not_true b h) f
+  no_reading present r h f = rw (← e, not-true b h) f
 
   module _ (h : not b ≡ false) where
     it_is : is_reading m ≡ true

@@ -136,3 +136,6 @@ module _ (xs : List ℕ) (from to : ℕ) (s : Stop) (h : StopFits xs s) (e : s �
 
   pub message_ends : to ≤ length xs
   message_ends = message_places.1
+
+-- What each kind of block leads the walk to, for each of its goals.
+pub ruleset walking = (walk_over, walk_ends, walk_null, walk_message, walk_on, walk_cut, begins_before, ends_within, less_left)

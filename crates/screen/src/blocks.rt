@@ -72,6 +72,7 @@ fn value_at(area: &[u8], at: usize) -> Span
 }
 
 // The first block of type 03h. Each block is looked at once, and none behind it.
+#[tactic(auto, using(crate::proofs::Spans::walking))]
 pub fn walk(area: &[u8]) -> Stop
     ensures stop_fits { StopFits area.now result }
     ensures area_value { found result area.now ≡ walk area.now }
