@@ -1,10 +1,9 @@
 -- What each way through the writer shows. Assumes nothing.
-use mathlib.Core.Path.{◌≡◌, refl, ap, ap₂, ◌∙◌}
+use mathlib.Core.Path.{◌≡◌, refl, ap, ◌∙◌}
 use mathlib.Core.List.{List, [], ◌∷◌, ◌++◌, append-nil}
 use Prim.Native.Nat.{ℕ, ◌-◌, ◌≤◌, ◌<◌}
 use native.Mathlib.Omega.{arith}
 use lib.ListN.{length, take, drop, length-take, drop_of_length-le}
-use lib.Seq.{take-length}
 use borrow.Rule.Slice.PartMut.{put_mid}
 use borrow.Author.Tests.{lt-ltb, le-ltb}
 use Rattle.image.specs.declared.layout.Four.{Four}
@@ -28,12 +27,15 @@ module _ (second watts : ℕ) (area : List ℕ) where
 
   -- the block was copied to the part of the area that is as long as it is
   pub area_written : (block part : List ℕ) → 14 ≤ length area → block ≡ block_of second watts
-      → part ≡ take (length block) block ++ drop (length block) (take (14 - 0) (drop 0 area))
+      → part ≡ block ++ drop (length block) (take (14 - 0) (drop 0 area))
       → Wrote (written second watts area) 0 (put_mid 0 (14 - 0) area part)
   unfolding written
   area_written block part h e p =
       let l : length block ≡ 14 = ap length e ∙ block_length second watts in
       let few : length (take 14 area) ≤ length block = simp length-take (omega (arith, l)) in
       let q : part ≡ block_of second watts =
-      p ∙ ap₂ (λ (x y : List ℕ). x ++ y) (take-length block) (drop_of_length-le (take 14 area) few) ∙ append-nil block ∙ e in
+      p ∙ ap (λ (x : List ℕ). block ++ x) (drop_of_length-le (take 14 area) few) ∙ append-nil block ∙ e in
       rw (le-ltb (length area) 14 h) (record { refused = refl; area = ap (λ (x : List ℕ). x ++ drop 14 area) q })
+
+-- Both ways through the writer, for each of its goals.
+pub ruleset writing = (area_short, area_written)

@@ -37,6 +37,7 @@ fn block_of(second: u32, watts: u32) -> [u8; 14]
 }
 
 // Writes a reading at the start of an area, whose other bytes stay. Answers 0, or the number of the refusal, and then nothing is written.
+#[tactic(auto, using(crate::proofs::Writing::writing))]
 pub fn write_reading(area: &mut [u8], second: u32, watts: u32) -> u8
     ensures { Wrote (written second watts area.old) result area.new }
 {
