@@ -1,5 +1,5 @@
 -- Document 01's examples of the two wires, and Q-1's cases, computed. Assumes nothing.
-use Rattle.std.proofs.Common.{◌≡◌, ℕ, ◌*◌, List, [], ◌∷◌, length, refl, ap, ◌∙◌, arith, lt-ltb}
+use Rattle.std.proofs.Common.{◌≡◌, ℕ, ◌*◌, [], ◌∷◌, length, refl, ap, ◌∙◌, arith, lt-ltb}
 use Rattle.image.specs.Layout.{size_of}
 use Rattle.image.specs.declared.layout.Size.TheVariants.{Pages}
 use Rattle.image.proofs.Laws.{fits}

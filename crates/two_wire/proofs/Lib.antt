@@ -1,5 +1,4 @@
 pub mod Laws
-pub mod Outer
 pub mod Examples
 pub mod Outcome
 pub mod Stored

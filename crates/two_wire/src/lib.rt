@@ -18,10 +18,9 @@ pub use event::{BusStep, step};
 pub use record::{BusRecord, Phase, bus_at_rest, phase_of};
 pub use region::MEMORY_LENGTH;
 
-// An event on the two wires. The pin driver lends its record, which is updated where the driver has it. Its name is the one that C links:
-// include/corridor_tag.h declares it.
-#[unsafe(no_mangle)]
-pub extern "C" fn corridor_bus_event(
+// An event on the two wires. The pin driver lends its record, which is updated where the driver has it. two_wire_c exports it to C under the
+// same name.
+pub fn corridor_bus_event(
     rec: &mut BusRecord,
     image: &mut [u8],
     memory: &mut [u8],
