@@ -14,17 +14,14 @@ use input::{Chunk, Input, Line, ROOM};
 use lines::read::Sent;
 use lines::write::{Kilobyte, Out};
 use session::{Memory, Session, new_session, respond};
+use std::io::{Read, Write};
 use two_wire::MEMORY_LENGTH;
 
-const STDOUT: i32 = 1;
-
-const STDERR: i32 = 2;
-
 // Writes the first `n` bytes, and answers whether that could be done.
-fn say(out: &[u8], n: usize) -> bool
+fn say<W: Write>(writer: &mut W, out: &[u8], n: usize) -> bool
     requires { n ≤ length out.now }
 {
-    io::write_all(STDOUT, &out[0..n])
+    writer.write_all(&out[0..n]).is_ok()
 }
 
 // What is kept from turn to turn, and how many bytes at the start of `out` the last turn left to be written.
@@ -36,7 +33,8 @@ struct State {
 }
 
 // One turn: goes on with the input, and answers a line where it is whole now.
-fn turn(
+fn turn<R: Read>(
+    reader: &mut R,
     image: &mut Kilobyte,
     memory: &mut Memory,
     answer: &mut Kilobyte,
@@ -52,7 +50,7 @@ fn turn(
 {
     let input = state.input;
     let session = state.session;
-    let moved = input.advance(line, chunk);
+    let moved = input.advance(reader, line, chunk);
     if moved.whole {
         let responded = respond(image, memory, answer, bytes, out, line, moved.len, session);
         let next = moved.answered();
@@ -86,7 +84,9 @@ struct Ended {
 
 // Plays to the end of the input, and writes what each turn says. A proved loop has to end, and nothing says that the input does: so the turns
 // are counted down, from a number that no run uses up.
-fn play(
+fn play<R: Read, W: Write>(
+    reader: &mut R,
+    writer: &mut W,
     image: &mut Kilobyte,
     memory: &mut Memory,
     answer: &mut Kilobyte,
@@ -109,8 +109,10 @@ fn play(
     let mut turns = most;
     while turns > 0 {
         turns -= 1;
-        state = turn(image, memory, answer, bytes, out, line, chunk, state);
-        if !say(out, state.said) {
+        state = turn(
+            reader, image, memory, answer, bytes, out, line, chunk, state,
+        );
+        if !say(writer, out, state.said) {
             return Ended {
                 ending: Ending::Unwritten,
                 state,
@@ -129,7 +131,7 @@ fn play(
     }
 }
 
-fn main() {
+fn main(rt: HostRuntime) {
     let mut image = [0u8; 1024];
     let mut memory = [0u8; MEMORY_LENGTH];
     let mut answer = [0u8; 1024];
@@ -138,6 +140,8 @@ fn main() {
     let mut line = [0u8; ROOM];
     let mut chunk = [0u8; 4096];
     let ended = play(
+        &mut rt.stdin(),
+        &mut rt.stdout(),
         &mut image,
         &mut memory,
         &mut answer,
@@ -149,6 +153,8 @@ fn main() {
     );
     let ending = ended.ending;
     if let Ending::Unwritten = ending {
-        io::write_all(STDERR, b"corridor: the output can't be written\n");
+        let _ = rt
+            .stderr()
+            .write_all(b"corridor: the output can't be written\n");
     }
 }

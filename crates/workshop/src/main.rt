@@ -13,17 +13,14 @@ ghost use Rattle.workshop.specs.Running.{Ends};
 use input::{Chunk, Input, Line, ROOM};
 use jobs::read::Sent;
 use jobs::write::Out;
+use std::io::{Read, Write};
 use work::respond;
 
-const STDOUT: i32 = 1;
-
-const STDERR: i32 = 2;
-
 // Writes the first `n` bytes, and answers whether that could be done.
-fn say(out: &[u8], n: usize) -> bool
+fn say<W: Write>(writer: &mut W, out: &[u8], n: usize) -> bool
     requires { n ≤ length out.now }
 {
-    io::write_all(STDOUT, &out[0..n])
+    writer.write_all(&out[0..n]).is_ok()
 }
 
 // Where the input stands, and how many bytes at the start of `out` the last turn left to be written.
@@ -34,13 +31,20 @@ struct State {
 }
 
 // One turn: goes on with the input, and answers a line where it is whole now.
-fn turn(bytes: &mut Sent, out: &mut Out, line: &mut Line, chunk: &mut Chunk, state: State) -> State
+fn turn<R: Read>(
+    reader: &mut R,
+    bytes: &mut Sent,
+    out: &mut Out,
+    line: &mut Line,
+    chunk: &mut Chunk,
+    state: State,
+) -> State
     requires { Reads state.input }
     ensures reads { (Reads result.input) × (result.said ≤ out_room) }
     ensures goes { Goes program tt state.input line.old chunk.old tt result.input result.said line.new chunk.new out.new }
 {
     let input = state.input;
-    let moved = input.advance(line, chunk);
+    let moved = input.advance(reader, line, chunk);
     if moved.whole {
         let said = respond(bytes, out, line, moved.len);
         let next = moved.answered();
@@ -68,7 +72,15 @@ struct Ended {
 
 // Works to the end of the input, and writes what each turn says. A proved loop has to end, and nothing says that the input does: so the turns
 // are counted down, from a number that no run uses up.
-fn run(bytes: &mut Sent, out: &mut Out, line: &mut Line, chunk: &mut Chunk, most: u64) -> Ended
+fn run<R: Read, W: Write>(
+    reader: &mut R,
+    writer: &mut W,
+    bytes: &mut Sent,
+    out: &mut Out,
+    line: &mut Line,
+    chunk: &mut Chunk,
+    most: u64,
+) -> Ended
     requires { most ≡ 18446744073709551615 }
     ensures { Ends result.ending result.state }
 {
@@ -77,8 +89,8 @@ fn run(bytes: &mut Sent, out: &mut Out, line: &mut Line, chunk: &mut Chunk, most
     let mut turns = most;
     while turns > 0 {
         turns -= 1;
-        state = turn(bytes, out, line, chunk, state);
-        if !say(out, state.said) {
+        state = turn(reader, bytes, out, line, chunk, state);
+        if !say(writer, out, state.said) {
             return Ended {
                 ending: Ending::Unwritten,
                 state,
@@ -97,14 +109,24 @@ fn run(bytes: &mut Sent, out: &mut Out, line: &mut Line, chunk: &mut Chunk, most
     }
 }
 
-fn main() {
+fn main(rt: HostRuntime) {
     let mut bytes = [0u8; 1100];
     let mut out = [0u8; 2206];
     let mut line = [0u8; ROOM];
     let mut chunk = [0u8; 4096];
-    let ended = run(&mut bytes, &mut out, &mut line, &mut chunk, u64::MAX);
+    let ended = run(
+        &mut rt.stdin(),
+        &mut rt.stdout(),
+        &mut bytes,
+        &mut out,
+        &mut line,
+        &mut chunk,
+        u64::MAX,
+    );
     let ending = ended.ending;
     if let Ending::Unwritten = ending {
-        io::write_all(STDERR, b"workshop: the output can't be written\n");
+        let _ = rt
+            .stderr()
+            .write_all(b"workshop: the output can't be written\n");
     }
 }
