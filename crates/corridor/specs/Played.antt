@@ -5,7 +5,6 @@ use Rattle.tag.specs.declared.state.Wait.{Wait}
 use Rattle.tag.specs.declared.state.Wait.TheVariants.{ToIdle, ToHalt}
 use Rattle.tag.specs.declared.state.State.{State}
 use Rattle.tag.specs.declared.state.State.TheVariants.{Idle, Halt, Ready1, Ready2, Active}
-use Rattle.tag.specs.declared.state.Tag.{Tag}
 use Rattle.tag.specs.State.{field_off}
 use Rattle.tag.specs.declared.record.TagRecord.{TagRecord}
 use Rattle.tag.specs.Record.{tag_of, record_of, field_loss}

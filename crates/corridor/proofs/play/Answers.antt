@@ -1,9 +1,5 @@
 use borrow.Author.Rules.{rules}
-use Rattle.input.specs.Reading.{Reads}
-use Rattle.input.specs.Running.{Reached}
 use Rattle.input.proofs.Shell.{reached_start, reached_next, reached_end}
-use Rattle.corridor.specs.Played.{program}
-use Rattle.corridor.specs.Session.{board_of, Within}
 use Rattle.corridor.proofs.play.Goals as goal
 
 pub loop-turns-init : goal.loop-turns-init

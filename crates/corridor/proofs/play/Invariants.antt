@@ -1,8 +1,6 @@
 -- `corridor::play` meets its contract. Assumes nothing.
-use borrow.Author.Rules.{rules}
 use Rattle.input.specs.Reading.{Reads}
 use Rattle.input.specs.Running.{Reached}
-use Rattle.input.proofs.Shell.{reached_start, reached_next, reached_end}
 use Rattle.corridor.specs.Played.{program}
 use Rattle.corridor.specs.Session.{board_of, Within}
 use Rattle.corridor.proofs.play.Given as goal

@@ -1,5 +1,4 @@
 -- `corridor::turn` meets its contract. Assumes nothing.
-use borrow.Author.Rules.{rules}
 use Rattle.input.proofs.Shell.{turn_answers, turn_waits}
 use Rattle.corridor.proofs.Long.{long_alike}
 use Rattle.corridor.proofs.turn.Goals as goal

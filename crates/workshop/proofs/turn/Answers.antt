@@ -1,5 +1,4 @@
 -- `workshop::turn` meets its contract. Assumes nothing.
-use borrow.Author.Rules.{rules}
 use Rattle.input.proofs.Shell.{turn_answers, turn_waits}
 use Rattle.workshop.proofs.Working.{long_alike}
 use Rattle.workshop.proofs.turn.Goals as goal

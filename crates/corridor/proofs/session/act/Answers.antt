@@ -1,5 +1,4 @@
 -- `corridor::session::act` meets its contract. Assumes nothing.
-use borrow.Author.Rules.{rules}
 use Rattle.corridor.proofs.Laws.{acted_on, judged_by}
 use Rattle.corridor.proofs.session.act.Goals as goal
 

@@ -1,8 +1,4 @@
 use borrow.Author.Rules.{rules}
-use mathlib.Core.Path.{◌≡◌}
-use Prim.Native.Nat.{◌-◌, ◌≤◌}
-use lib.ListN.{length, take}
-use Rattle.corridor.specs.Played.{zeros}
 use Rattle.corridor.proofs.Laws.{none_cleared_lem, one_cleared, all_cleared}
 use Rattle.corridor.proofs.session.clear.Goals as goal
 

@@ -1,10 +1,8 @@
 -- `corridor::session::clear` meets its contract. Assumes nothing.
-use borrow.Author.Rules.{rules}
 use mathlib.Core.Path.{◌≡◌}
 use Prim.Native.Nat.{◌-◌, ◌≤◌}
 use lib.ListN.{length, take}
 use Rattle.corridor.specs.Played.{zeros}
-use Rattle.corridor.proofs.Laws.{none_cleared_lem, one_cleared, all_cleared}
 use Rattle.corridor.proofs.session.clear.Given as goal
 
 abbrev pub invariant-loop-k : goal.invariant-loop-k

@@ -1,5 +1,4 @@
 -- `corridor::session::hear` meets its contract. Assumes nothing.
-use borrow.Author.Rules.{rules}
 use Rattle.corridor.proofs.Laws.{bits_within, hear_done}
 use Rattle.corridor.proofs.session.hear.Goals as goal
 

@@ -1,5 +1,4 @@
 -- `corridor::session::respond` meets its contract. Assumes nothing.
-use borrow.Author.Rules.{rules}
 use Rattle.corridor.proofs.Laws.{responded_nothing, responded}
 use Rattle.corridor.proofs.session.respond.Goals as goal
 

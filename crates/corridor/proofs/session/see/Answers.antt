@@ -1,5 +1,4 @@
 -- `corridor::session::see` meets its contract. Assumes nothing.
-use borrow.Author.Rules.{rules}
 use Rattle.corridor.proofs.Laws.{see_done}
 use Rattle.corridor.proofs.session.see.Goals as goal
 
