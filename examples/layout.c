@@ -84,7 +84,10 @@ static void check_tag_record(void) {
     uint8_t room[64];
     paint(room, sizeof room, 0xEE);
     frame_into(room, image, sizeof image, answer, sizeof answer, held, wupa, 1, 7, true);
-    expect("the size of corridor_answer, without padding", written(room, sizeof room, 0xEE), offsetof(corridor_answer, left) + 4);
+    /* The padding behind its last field may be written, or not. */
+    size_t reached = written(room, sizeof room, 0xEE);
+    expect("corridor_answer is written to its last field", reached >= offsetof(corridor_answer, left) + 4, 1);
+    expect("corridor_answer is written past its end", reached > sizeof(corridor_answer), 0);
     expect("corridor_field_loss", corridor_field_loss(active).state, CORRIDOR_IDLE);
     expect("corridor_field_off", corridor_field_off().state, CORRIDOR_IDLE);
 }

@@ -1,5 +1,5 @@
 // The tag's calls under C names, for a controller's firmware: include/corridor_tag.h declares them. Each is the call below it, with its
-// contract. `corridor_bus_event` stands in two_wire, where it is proved.
+// contract. `corridor_bus_event` has a crate of its own, two_wire_c.
 #![tactic(auto)]
 
 ghost use Rattle.std.specs.Prelude.{◌≡◌, length};
