@@ -1,4 +1,4 @@
-/* Makes each kind of call once on both tags, between two marks: the emulator's trace has the instructions. Of each kind the proved tag comes first. */
+/* Makes each kind of call once on both tags, between two marks, for tools/instructions. Of each kind the proved tag comes first. */
 #include "host.h"
 #include "kinds.h"
 #include "marks.h"

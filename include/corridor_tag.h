@@ -26,14 +26,15 @@
  *     cc -std=c99 -O2 -Wall -Iinclude -Wl,--gc-sections -o my_board my_board.c target/staticlib/libcorridor_tag.a
  *     ./my_board
  *
- * By --gc-sections only the calls that it makes are linked, with what they call: a logger that makes corridor_write_reading alone has 31 bytes of it.
+ * By --gc-sections only the calls that it makes are linked, with what they call: a logger that makes corridor_write_reading alone had 31 bytes of it, with
+ * the kit that docs/COST.md is of.
  *
  * Interrupts. A call touches what it is given and nothing else, so calls on different images, records and buffers may run at once, in
  * interrupts or on several cores. Two calls that share one of these may not: where the bus can interrupt a frame on the same image, hold its
  * event back until corridor_frame has returned. corridor_screen only reads its image, and may not be interrupted by a call that changes it.
  * docs/COST.md has how long calls take.
  *
- * Stack. The deepest that was measured on x86-64 is 456 bytes, the caller's frame among them (docs/COST.md).
+ * Stack. The deepest that was measured on x86-64, with the kit that docs/COST.md is of, is 456 bytes, the caller's frame among them.
  *
  * When to save the image and the data memory. Three kinds of frames, one event and the writer can change the image, so a copy in flash is behind
  * only after one of these. No frame changes the data memory; a stop changes one of the two, never both:

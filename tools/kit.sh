@@ -12,9 +12,9 @@ toolchain=$kit/toolchain
 [ -d "$toolchain" ] || fail "the kit has no toolchain at $toolchain"
 [ "$(uname -m)" = x86_64 ] || fail "the kit's programs are for x86-64, and this machine is $(uname -m)"
 
-# Whether a file is there, and no source of the crates is newer.
+# Whether a file is there, and no source of the crates, nor a folder of sources, is newer. What rt writes stands in the crates' out/.
 is_new() {
-    [ -f "$1" ] && [ -z "$(find "$root/crates" "$root/crates.txt" -name out -prune -o -type f -newer "$1" -print 2>/dev/null | head -n 1)" ]
+    [ -f "$1" ] && [ -z "$(find "$root"/crates/*/src "$root"/crates/*/specs "$root"/crates/*/proofs "$root/crates.txt" -newer "$1" 2>/dev/null | head -n 1)" ]
 }
 
 # How many crates of the repository have to be proved for one: itself, and all that it stands on.

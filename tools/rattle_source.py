@@ -11,7 +11,7 @@ from collections import namedtuple
 STRING = r'"(?:\\.|[^"\\])*"'
 # A comment begins where a token does, since `a--b` is one name; in a string nothing begins one.
 STRING_OR_COMMENT = re.compile(STRING + r"|(?P<comment>\{-.*?-\}|(?<![^\s(){};,@])--[^\n]*)", re.S)
-# A dot is no token by itself: `r .size` is a field of r, and `r.size` a name of a module.
+# A dot is no token by itself: `r.size` is one, a field of r or a name of a module.
 ANTT_TOKEN = re.compile(STRING + r'|[(){};,@"]|[^\s(){};,@"]+', re.S)
 
 MARKS = r"(?:(?:unfoldable|abbrev|axiom|pub)\s+)*"
