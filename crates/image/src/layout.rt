@@ -10,6 +10,7 @@ pub enum Size {
     Unknown,
 }
 
+#[tactic(auto, using(crate::proofs::Laws::unknown_size), unfolding(crate::specs::Layout::size_of))]
 pub fn size_of(length: usize) -> Size
     ensures { result ≡ size_of length }
 {

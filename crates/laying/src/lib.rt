@@ -83,6 +83,7 @@ pub fn put_hex(out: &mut [u8], at: usize, bytes: &[u8], count: usize) -> usize
 }
 
 // The same behind a space; nothing where there are none.
+#[tactic(auto, using(crate::proofs::Laying::tail_none))]
 pub fn put_tail(out: &mut [u8], at: usize, bytes: &[u8], count: usize) -> usize
     requires count_in_bounds { count ≤ length bytes.now }
     requires count_in_bounds_2 { at + 2 * count + 1 ≤ length out.old }

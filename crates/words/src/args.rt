@@ -144,6 +144,7 @@ fn arg_at(
 }
 
 // The arguments of a line of a command; wrong until all of them are read.
+#[tactic(auto, using(crate::proofs::Arguing::fits, crate::proofs::Arguing::many_said))]
 fn gather(shape: Shape, text: &[u8], bytes: &mut [u8]) -> Given
     requires { room_for (kinds_of shape) ≤ length bytes.old }
     ensures given_fits { GivenFits shape result }

@@ -1,15 +1,9 @@
 use borrow.Author.Rules.{rules}
-use Rattle.words.proofs.Arguing.{zeros, fits, room_here, room_next, bounded_next, args_start, args_next, many_said, bad_said, few_said, good_said}
+use Rattle.words.proofs.Arguing.{zeros, fits, room_here, room_next, bounded_next, args_start, args_next, bad_said, few_said, good_said}
 use Rattle.words.proofs.args.gather.Goals as goal
 
 pub loop-at-init : goal.loop-at-init
 loop-at-init c = (search rules, search rules, search rules, search rules, search rules, search rules, search zeros, search args_start)
-
-pub returns-then-i-ge3-clause-given_fits : goal.returns-then-i-ge3-clause-given_fits
-returns-then-i-ge3-clause-given_fits c = search fits
-
-pub returns-then-i-ge3-clause-bytes_after : goal.returns-then-i-ge3-clause-bytes_after
-returns-then-i-ge3-clause-bytes_after c = search many_said
 
 pub arg_at-requires : goal.arg_at-requires
 arg_at-requires c = record { i_bound = search rules; i_in_bounds = search room_here }
