@@ -185,18 +185,42 @@ def named(scope):
 
 
 def block_name(words, kind):
-    """The name that a block gives to what stands in it: a module's, or the type's of an impl; none of `extern`."""
+    """The name that a block gives to what stands in it: a module's, the type's of an impl, or as rt names an impl of a trait, `FourFromU32` for
+    `impl From<u32> for Four`; none of `extern`."""
     if kind == "extern":
         return ""
     words = words[words.index(kind) + 1:]
-    if "for" in words:
-        words = words[words.index("for") + 1:]
+    if "for" not in words:
+        return first_name(words)
+    trait, of = words[:words.index("for")], words[words.index("for") + 1:]
+    name = first_name(of)
+    return capital(name) + "".join(capital(word) for word in after_parameters(trait))
+
+
+def first_name(words):
     depth = 0
     for word in words:
         depth += (word == "<") - (word == ">")
         if depth == 0 and re.fullmatch(r"\w+", word):
             return word
     return ""
+
+
+def after_parameters(words):
+    """The words behind the parameters of an impl."""
+    depth = 0
+    for place, word in enumerate(words):
+        depth += (word == "<") - (word == ">")
+        if depth == 0:
+            return words[place + (place > 0):]
+    return []
+
+
+def capital(word):
+    """A word as a part of an impl's name: an array is told, and brackets are not."""
+    if word == "[":
+        return "Array"
+    return word[:1].upper() + word[1:] if re.fullmatch(r"\w+", word) else ""
 
 
 def module_of(path):

@@ -1,4 +1,5 @@
 // A frame in ACTIVE: which command it is, and what it does.
+// The image, the number of its pages and the answer buffer stay apart: each promise names the two slices before and after, by these names.
 #![tactic(auto)]
 
 ghost use Rattle.std.specs.Prelude.{◌≡◌, ◌≤◌, length};
@@ -19,10 +20,9 @@ pub enum Command {
     Count(u8),
     Auth(Four),
     Hlta(u8),
-    Unknown,
 }
 
-// The bytes that a frame of this code has, with its CRC_A.
+// The bytes that a frame of this code has, with its CRC_A. Document 01 names the match on the command byte, here and in `named`.
 fn length_of(code: u8) -> usize
     ensures { result ≡ length_of code }
 {
@@ -39,33 +39,33 @@ fn length_of(code: u8) -> usize
 }
 
 // The command of this code, with its arguments.
-fn named(frame: &[u8], code: u8) -> Command
+fn named(frame: &[u8], code: u8) -> Option<Command>
     requires { length frame.now ≡ length_of code }
     ensures { result ≡ named frame.now code }
 {
     match code {
-        0x30 => Command::Read(frame[1]),
-        0x3A => Command::FastRead(frame[1], frame[2]),
-        0xA2 => Command::Write(frame[1], four_at(frame, 2)),
-        0x60 => Command::Version,
-        0x39 => Command::Count(frame[1]),
-        0x1B => Command::Auth(four_at(frame, 1)),
-        0x50 => Command::Hlta(frame[1]),
-        _ => Command::Unknown,
+        0x30 => Some(Command::Read(frame[1])),
+        0x3A => Some(Command::FastRead(frame[1], frame[2])),
+        0xA2 => Some(Command::Write(frame[1], four_at(frame, 2))),
+        0x60 => Some(Command::Version),
+        0x39 => Some(Command::Count(frame[1])),
+        0x1B => Some(Command::Auth(four_at(frame, 1))),
+        0x50 => Some(Command::Hlta(frame[1])),
+        _ => None,
     }
 }
 
-pub fn decode(frame: &[u8]) -> Command
+// None where the code is unknown or the length is another.
+#[tactic(auto, unfolding(crate::specs::Frame::command_of))]
+pub fn decode(frame: &[u8]) -> Option<Command>
     requires { 3 ≤ length frame.now }
     ensures { result ≡ command_of frame.now }
 {
     let code = frame[0];
-    let n = length_of(code);
-    if n == frame.len() {
-        named(frame, code)
-    } else {
-        Command::Unknown
+    if frame.len() != length_of(code) {
+        return None;
     }
+    named(frame, code)
 }
 
 fn done(image: &mut [u8], answer: &mut [u8], n: usize, tag: Tag, command: Command) -> Step
@@ -80,11 +80,11 @@ fn done(image: &mut [u8], answer: &mut [u8], n: usize, tag: Tag, command: Comman
         Command::Count(x) => commands::read_count(image, answer, n, tag, x),
         Command::Auth(p) => commands::pwd_auth(image, answer, n, tag, p),
         Command::Hlta(x) => commands::hlta(answer, tag, x),
-        Command::Unknown => nak(answer, tag, 0),
     }
 }
 
-// A frame in ACTIVE.
+// A frame in ACTIVE. Its bytes, bits and parity come apart: this function alone takes them here, and the crate that has `Frame` stands beside this one.
+#[tactic(auto, unfolding(crate::specs::Frame::in_active))]
 pub fn active(
     image: &mut [u8],
     answer: &mut [u8],
@@ -97,20 +97,16 @@ pub fn active(
     requires { Room n image.old answer.old }
     ensures { Did (in_active n image.old tag frame.now bits parity) result image.old image.new answer.old answer.new }
 {
-    if bits % 8 != 0 {
+    let whole = bits % 8 == 0 && 3 <= frame.len();
+    if !whole {
         return lost(tag);
     }
-    if frame.len() < 3 {
-        return lost(tag);
+    let sound = parity && crc_a::is_right(frame);
+    if !sound {
+        return nak(answer, tag, 1);
     }
-    if parity {
-        if crc_a::is_right(frame) {
-            let command = decode(frame);
-            done(image, answer, n, tag, command)
-        } else {
-            nak(answer, tag, 1)
-        }
-    } else {
-        nak(answer, tag, 1)
+    match decode(frame) {
+        Some(command) => done(image, answer, n, tag, command),
+        None => nak(answer, tag, 0),
     }
 }

@@ -1,4 +1,3 @@
 pub mod Bytes
 pub mod Choice
-pub mod Hex
 pub mod Standing

@@ -1,25 +1,56 @@
--- Where a byte first stands, one place at a time. Assumes nothing.
-use Rattle.std.proofs.Common.{◌≡◌, ap, ℕ, suc, ◌+◌, ◌<◌, ◌≤◌, List, ◌∷◌, length, take, drop, get_or, arith, drop-cons, length-take, add-one, get_or-take, drop_of_length-le}
-use borrow.Author.Tests.{eq-eqb, ne_eqb}
+-- Where a byte first stands, as the library's `position` tells it. Assumes nothing.
+use Rattle.std.proofs.Common.{◌≡◌, ◌∙◌, refl, sym, ap, Bool, true, false, ℕ, ◌+◌, ◌-◌, ◌≤◌, List, length, take, drop, position, nat_lt, ◌==◌, arith, length-take, length-drop}
+use Rattle.std.specs.Prelude.{Option, Some, None, cond, not, is_some, unwrap_or}
+use Rattle.std.specs.List.{position_or_len}
+use Rattle.std.proofs.lemmas.Bool.{ltb-false}
+use Rattle.std.proofs.lemmas.List.{drop-take}
+use Rattle.std.proofs.lemmas.List.Recursion.{is_position_or_len}
+use Rattle.std.proofs.lemmas.List.Sums.{prefix_len-le-length}
 use Rattle.basics.specs.Runs.{slice, index_after, index_of}
+use Rattle.basics.proofs.Choice.{never}
 
-module _ (byte at end : ℕ) (text : List ℕ) (within : end ≤ length text) where
-  slice_open : at < end → slice at end text ≡ get_or text at 0 ∷ slice (at + 1) end text
-  unfolding slice
-  slice_open below =
-      let fits : at < length (take end text) = simp length-take (omega arith) in
-      rw (add-one, drop-cons (take end text) at 0 fits) (ap (λ (x : ℕ). x ∷ drop (suc at) (take end text)) (get_or-take end text at 0 below))
+index_is_position : (byte : ℕ) (xs : List ℕ) → index_of byte xs ≡ position_or_len (λ b. b == byte) xs
+unfolding index_of index_after
+index_is_position byte xs = is_position_or_len (index_of byte) (λ b. b == byte) refl (λ x xs. either (x == byte) (index_of byte xs)) xs
+  where
+    either : (t : Bool) (n : ℕ) → index_after t n ≡ cond t 0 (1 + n)
+    either true n = refl
+    either false n = omega arith
 
-  pub stands_here : at < end → get_or text at 0 ≡ byte → index_of byte (slice at end text) ≡ 0
-  unfolding index_of index_after
-  stands_here below same = rw (slice_open below, eq-eqb (get_or text at 0) byte same)
+-- a slice as the code lends it
+slice_lent : (start end : ℕ) (text : List ℕ) → start ≤ end → slice start end text ≡ take (end - start) (drop start text)
+unfolding slice
+slice_lent start end text ordered =
+    let e : end ≡ start + (end - start) = omega arith in
+    ap (λ (n : ℕ). drop start (take n text)) e ∙ drop-take start (end - start) text
 
-  pub stands_later : at < end → (get_or text at 0 ≡ byte → ⊥) → at + index_of byte (slice at end text) ≡ at + 1 + index_of byte (slice (at + 1) end text)
-  unfolding index_of index_after
-  stands_later below other = rw (slice_open below, ne_eqb (get_or text at 0) byte other) (omega arith)
+module _ (byte start end : ℕ) (text : List ℕ) (ordered : start ≤ end) (within : end ≤ length text) where
+  lent : List ℕ
+  lent = take (end - start) (drop start text)
 
-  pub stands_nowhere : end ≤ at → index_of byte (slice at end text) ≡ 0
-  unfolding slice index_of
-  stands_nowhere past =
-      let few : length (take end text) ≤ at = simp length-take (omega arith) in
-      rw (drop_of_length-le (take end text) few)
+  place : ℕ
+  place = position_or_len (λ b. b == byte) lent
+
+  place_is : index_of byte (slice start end text) ≡ place
+  unfolding lent place
+  place_is = ap (index_of byte) (slice_lent start end text ordered) ∙ index_is_position byte (take (end - start) (drop start text))
+
+  pub stands_at : (i : ℕ) → position (λ b. b == byte) (take (end - start) (drop start text)) ≡ Some i → start + i ≡ start + index_of byte (slice start end text)
+  unfolding lent place
+  stands_at i e = ap (λ (k : ℕ). start + k) (sym (place_is ∙ found (nat_lt place (length lent)) place e))
+    where
+      found : (t : Bool) (k : ℕ) → cond t (Some k) None ≡ Some i → k ≡ i
+      found true k e = ap (λ (o : Option ℕ). unwrap_or o 0) e
+      found false k e = never (sym (ap is_some e))
+
+  pub stands_nowhere : position (λ b. b == byte) (take (end - start) (drop start text)) ≡ None → end ≡ start + index_of byte (slice start end text)
+  unfolding lent place
+  stands_nowhere e =
+      let past = missed (nat_lt place (length lent)) refl e in
+      let most = prefix_len-le-length (λ b. not (b == byte)) lent in
+      let whole : length lent ≡ end - start = simp (length-drop, length-take) (omega arith) in
+      rw place_is (omega arith)
+    where
+      missed : (t : Bool) → nat_lt place (length lent) ≡ t → cond t (Some place) None ≡ None → length lent ≤ place
+      missed true l e = never (ap is_some e)
+      missed false l e = ltb-false _ _ l

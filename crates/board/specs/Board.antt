@@ -1,9 +1,7 @@
 -- What a firmware asks beside the calls. Assumes nothing.
-use Rattle.std.specs.Prelude.{ℕ}
-use Rattle.image.specs.declared.layout.Size.{Size}
-use Rattle.image.specs.declared.layout.Size.TheVariants.{Pages, Unknown}
+use Rattle.std.specs.Prelude.{ℕ, Option, Some, None}
 
 -- "The length tells the size"; 0 where it tells none
-abbrev pub pages_of : Size → ℕ
-pages_of (Pages n) = n
-pages_of Unknown = 0
+abbrev pub pages_of : Option ℕ → ℕ
+pages_of (Some n) = n
+pages_of None = 0

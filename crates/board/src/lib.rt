@@ -13,7 +13,7 @@ ghost use Rattle.screen.specs.Screen.{seen, answer_of};
 ghost use Rattle.logger.specs.Writer.{written, Wrote};
 ghost use Rattle.board.specs.Board.{pages_of};
 
-use image::layout::Size;
+use image::layout::size_of;
 use radio::Answer;
 use screen::ScreenAnswer;
 use tag::outcome::ANSWER_ROOM;
@@ -64,27 +64,26 @@ pub extern "C" fn corridor_bus_at_rest() -> BusRecord
 pub extern "C" fn corridor_screen(image: &[u8], present: u32) -> ScreenAnswer
     ensures { result ≡ answer_of (seen image.now present) }
 {
-    screen::screen(image, present)
+    ScreenAnswer::from(screen::screen(image, present))
 }
 
-// A reading is written into a user area. It answers 0, or the number of the refusal.
+// A reading is written into a user area. It answers 0, or the number of the refusal: C has no Result.
 #[unsafe(no_mangle)]
 pub extern "C" fn corridor_write_reading(area: &mut [u8], second: u32, watts: u32) -> u8
     ensures { Wrote (written second watts area.old) result area.new }
 {
-    logger::write_reading(area, second, watts)
+    match logger::write_reading(area, second, watts) {
+        Ok(()) => 0,
+        Err(refusal) => u8::from(refusal),
+    }
 }
 
-// How many pages an image of so many bytes has.
+// How many pages an image of so many bytes has; 0 where it is none, since C has no Option.
 #[unsafe(no_mangle)]
 pub extern "C" fn corridor_pages(bytes: usize) -> usize
     ensures { result ≡ pages_of (size_of bytes) }
 {
-    let size = image::layout::size_of(bytes);
-    match size {
-        Size::Pages(n) => n,
-        Size::Unknown => 0,
-    }
+    size_of(bytes).unwrap_or(0)
 }
 
 // The smallest answer buffer that the frame call takes.

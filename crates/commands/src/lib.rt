@@ -1,4 +1,5 @@
 // What WRITE, GET_VERSION, READ_CNT, PWD_AUTH and HLTA do.
+// The image, the number of its pages and the answer buffer stay apart: each promise names the two slices before and after, by these names.
 #![tactic(auto)]
 
 ghost use Rattle.std.specs.Prelude.{◌≡◌, false, List, ℕ, ◌+◌, ◌≤◌, ◌<◌, length, set};
@@ -7,31 +8,28 @@ ghost use Rattle.image.specs.Write.{locked};
 ghost use Rattle.tag.specs.Outcome.{apply, answer_room, Did, Room};
 ghost use Rattle.commands.specs.Commands.{under_password, refuses, write, size_code, version, read_count, limit_reached, same, wrong_counted, accepted, rejected, pwd_auth, hlta};
 
-use basics::to_usize;
 use image::layout::{Four, Region};
 use tag::outcome::{Step, ack, lay, nak, says, silent};
 use tag::state::Tag;
 
 // Whether a page is under password.
+#[tactic(auto, unfolding(crate::specs::Commands::under_password))]
 fn under_password(image: &[u8], n: usize, tag: Tag, page: usize) -> bool
     requires { Fits n image.now }
     ensures { result ≡ under_password n image.now tag page }
 {
-    if to_usize(image::settings::auth0(image, n)) <= page {
-        if tag.authenticated() { false } else { true }
-    } else {
-        false
-    }
+    usize::from(image::settings::auth0(image, n)) <= page && !tag.authenticated()
 }
 
 fn is_locked(image: &[u8], n: usize, page: usize) -> bool
     requires { Fits n image.now }
     ensures { result ≡ locked n image.now page }
 {
-    locks::is_bit(image::write::locked_by(image, n, page))
+    image::write::locked_by(image, n, page).is_some()
 }
 
 // Whether a WRITE to a page is refused.
+#[tactic(auto, unfolding(crate::specs::Commands::refuses))]
 fn refuses(image: &[u8], n: usize, tag: Tag, page: usize) -> bool
     requires { Fits n image.now }
     ensures { result ≡ refuses n image.now tag page }
@@ -39,8 +37,7 @@ fn refuses(image: &[u8], n: usize, tag: Tag, page: usize) -> bool
     if under_password(image, n, tag, page) {
         return true;
     }
-    let region = image::layout::region_of(n, page);
-    match region {
+    match image::layout::region_of(n, page) {
         Region::Uid => true,
         Region::StaticLocks => false,
         // One call for both: the compiler then puts it in line.
@@ -52,11 +49,12 @@ fn refuses(image: &[u8], n: usize, tag: Tag, page: usize) -> bool
     }
 }
 
+#[tactic(auto, using(crate::proofs::Laws::not_refused))]
 pub fn write(image: &mut [u8], answer: &mut [u8], n: usize, tag: Tag, a: u8, d: Four) -> Step
     requires { Room n image.old answer.old }
     ensures { Did (write n image.old tag a d) result image.old image.new answer.old answer.new }
 {
-    let page = to_usize(a);
+    let page = usize::from(a);
     if refuses(image, n, tag, page) {
         return nak(answer, tag, 0);
     }
@@ -64,6 +62,7 @@ pub fn write(image: &mut [u8], answer: &mut [u8], n: usize, tag: Tag, a: u8, d: 
     ack(answer, tag)
 }
 
+#[tactic(auto, unfolding(crate::specs::Commands::size_code))]
 fn size_code(n: usize) -> u8
     ensures { result ≡ size_code n }
 {
@@ -81,6 +80,7 @@ fn set_size_code(answer: &mut [u8], n: usize)
     answer[6] = size_code(n);
 }
 
+// Document 01 names the form: a fixed byte string, the size byte set after.
 pub fn version(answer: &mut [u8], n: usize, tag: Tag) -> Step
     requires { answer_room ≤ length answer.old }
     ensures { (img : List ℕ) → Did (version n tag) result img img answer.old answer.new }
@@ -94,42 +94,23 @@ pub fn read_count(image: &[u8], answer: &mut [u8], n: usize, tag: Tag, x: u8) ->
     requires { Room n image.now answer.old }
     ensures { Did (read_count n image.now tag x) result image.now image.now answer.old answer.new }
 {
-    if x != 0x02 {
+    let shown = x == 0x02 && image::settings::count_readable(image, n, tag.authenticated());
+    if !shown {
         return nak(answer, tag, 0);
     }
-    if image::settings::count_readable(image, n, tag.authenticated()) {
-        let tail = image::layout::page_at(image, n);
-        let counter = [tail.b0, tail.b1, tail.b2];
-        lay(answer, &counter);
-        says(answer, 3, tag)
-    } else {
-        nak(answer, tag, 0)
-    }
+    let tail = image::layout::page_at(image, n);
+    let counter = [tail.b0, tail.b1, tail.b2];
+    lay(answer, &counter);
+    says(answer, 3, tag)
 }
 
+#[tactic(auto, unfolding(crate::specs::Commands::limit_reached))]
 fn limit_reached(image: &[u8], n: usize) -> bool
     requires { Fits n image.now }
     ensures { result ≡ limit_reached n image.now }
 {
     let limit = image::settings::authlim(image, n);
-    if limit == 0 {
-        false
-    } else {
-        limit <= image::tail::failed(image, n)
-    }
-}
-
-fn same(p: Four, q: Four) -> bool
-    ensures { result ≡ same p q }
-{
-    if p.b0 == q.b0 {
-        if p.b1 == q.b1 {
-            if p.b2 == q.b2 {
-                return p.b3 == q.b3;
-            }
-        }
-    }
-    false
+    limit != 0 && limit <= image::tail::failed(image, n)
 }
 
 // A right password.
@@ -141,21 +122,19 @@ fn accepted(image: &mut [u8], answer: &mut [u8], n: usize, tag: Tag) -> Step
     let first = [pack.b0, pack.b1];
     lay(answer, &first);
     image::tail::set_failed(image, n, 0);
-    let state = tag.state;
-    says(answer, 2, tag.moved(state.granted()))
+    says(answer, 2, tag.moved(tag.state.granted()))
 }
 
 // A wrong password counts where there is a limit.
+#[tactic(auto, unfolding(crate::specs::Commands::wrong_counted, crate::specs::Commands::failing, crate::specs::Commands::limit_reached, tag::specs::Outcome::apply))]
 fn count_wrong(image: &mut [u8], n: usize)
     requires { Fits n image.old × (limit_reached n image.old ≡ false) }
     ensures { image.new ≡ apply image.old (wrong_counted n image.old) }
 {
-    let limit = image::settings::authlim(image, n);
-    if limit == 0 {
-        return;
+    if image::settings::authlim(image, n) != 0 {
+        let failed = image::tail::failed(image, n);
+        image::tail::set_failed(image, n, failed + 1);
     }
-    let failed = image::tail::failed(image, n);
-    image::tail::set_failed(image, n, failed + 1);
 }
 
 fn rejected(image: &mut [u8], answer: &mut [u8], n: usize, tag: Tag) -> Step
@@ -166,6 +145,7 @@ fn rejected(image: &mut [u8], answer: &mut [u8], n: usize, tag: Tag) -> Step
     nak(answer, tag, 0)
 }
 
+#[tactic(auto, unfolding(crate::specs::Commands::pwd_auth, crate::specs::Commands::same))]
 pub fn pwd_auth(image: &mut [u8], answer: &mut [u8], n: usize, tag: Tag, p: Four) -> Step
     requires { Room n image.old answer.old }
     ensures { Did (pwd_auth n image.old tag p) result image.old image.new answer.old answer.new }
@@ -174,7 +154,7 @@ pub fn pwd_auth(image: &mut [u8], answer: &mut [u8], n: usize, tag: Tag, p: Four
         return nak(answer, tag, 0);
     }
     let pwd = image::layout::page_at(image, n - 2);
-    if same(p, pwd) {
+    if p == pwd {
         accepted(image, answer, n, tag)
     } else {
         rejected(image, answer, n, tag)
@@ -185,10 +165,9 @@ pub fn hlta(answer: &mut [u8], tag: Tag, x: u8) -> Step
     requires { answer_room ≤ length answer.old }
     ensures { (img : List ℕ) → Did (hlta tag x) result img img answer.old answer.new }
 {
-    if x == 0x00 {
-        let state = tag.state;
-        silent(tag.moved(state.halted()))
-    } else {
-        nak(answer, tag, 0)
+    let halts = x == 0x00;
+    if !halts {
+        return nak(answer, tag, 0);
     }
+    silent(tag.moved(tag.state.halted()))
 }

@@ -1,2 +1,3 @@
 pub mod Played
-pub mod Session
+pub mod Acts
+pub mod Alike

@@ -104,7 +104,7 @@ sees b number byte =
     let l = after (both b.image b.memory) o.effect in
     record {
       board = record { image = l.image; lent = b.lent; memory = l.memory; tag = b.tag; bus = o.bus };
-      told = event_told (wires.answer_of o.reply);
+      told = event_told (wires.returned o.reply);
     }
 
 -- a line that leaves all as it was

@@ -7,8 +7,9 @@ use Prim.Native.Nat.{ℕ, ◌+◌, ◌-◌, ◌*◌, ◌/◌, ◌%◌, ◌≤◌
 use native.Mathlib.Nat.{add-zero}
 use native.Mathlib.Numerals.{add-one}
 use native.Mathlib.Omega.{arith}
-use lib.ListN.{length, take, drop, get_or, set, length-append, drop_of_length-le}
-use lib.Seq.{sets, take_at, drop-cons, get_or-append-add}
+use lib.ListN.{length, take, drop, get_or, set, length-append}
+use lib.Seq.{sets, take_at, get_or-append-add}
+use Rattle.std.proofs.lemmas.List.{take_rest}
 use borrow.Author.Tests.{le-leb, lt-leb, eq-eqb}
 use lib.Dec.{eqb}
 use Rattle.basics.specs.Bytes.{low_first}
@@ -20,62 +21,42 @@ standard_examples = record { zeros = refl; counted = refl }
 
 -- ---- the bytes: what is left of them, from the register so far, comes to the whole's
 
-byte_turn : (bytes : List ℕ) (i register next : ℕ) → i < length bytes → bytes_in register (drop i bytes) ≡ crc_a bytes → next ≡ byte_in register (get_or bytes i 0)
-    → bytes_in next (drop (i + 1) bytes) ≡ crc_a bytes
+pub four_more : (bytes rest : List ℕ) (register next : ℕ) → bytes_in register rest ≡ crc_a bytes → 4 ≤ length rest
+    → next ≡ byte_in (byte_in (byte_in (byte_in register (get_or rest 0 0)) (get_or rest 1 0)) (get_or rest 2 0)) (get_or rest 3 0)
+    → bytes_in next (take (length rest - 4) (drop 4 rest)) ≡ crc_a bytes
 unfolding bytes_in
-byte_turn bytes i register next l h e = rw (e, add-one) (ap (bytes_in register) (sym (drop-cons bytes i 0 l)) ∙ h)
+four_more bytes rest register next h l e = rw (take_rest rest 4, e) (front rest l ∙ h)
+  where
+    front : (xs : List ℕ) → 4 ≤ length xs
+        → bytes_in (byte_in (byte_in (byte_in (byte_in register (get_or xs 0 0)) (get_or xs 1 0)) (get_or xs 2 0)) (get_or xs 3 0)) (drop 4 xs) ≡ bytes_in register xs
+    front (b0 ∷ b1 ∷ b2 ∷ b3 ∷ xs) l = refl
+    front (b0 ∷ b1 ∷ b2 ∷ []) l = absurd (omega arith)
+    front (b0 ∷ b1 ∷ []) l = absurd (omega arith)
+    front (b0 ∷ []) l = absurd (omega arith)
+    front [] l = absurd (omega arith)
 
-two_turn : (bytes : List ℕ) (i register next : ℕ) → i + 2 ≤ length bytes → bytes_in register (drop i bytes) ≡ crc_a bytes
-    → next ≡ byte_in (byte_in register (get_or bytes i 0)) (get_or bytes (i + 1) 0) → bytes_in next (drop (i + 2) bytes) ≡ crc_a bytes
-two_turn bytes i register next l h e =
-    let middle = byte_in register (get_or bytes i 0) in
-    let once : bytes_in middle (drop (i + 1) bytes) ≡ crc_a bytes = byte_turn bytes i register middle (omega arith) h refl in
-    let two : i + 2 ≡ i + 1 + 1 = omega arith in
-    ap (λ (k : ℕ). bytes_in next (drop k bytes)) two ∙ byte_turn bytes (i + 1) middle next (omega arith) once e
-
-pub four_turn : (bytes : List ℕ) (i register next : ℕ) → i + 4 ≤ length bytes → bytes_in register (drop i bytes) ≡ crc_a bytes
-    → next ≡ byte_in (byte_in (byte_in (byte_in register (get_or bytes i 0)) (get_or bytes (i + 1) 0)) (get_or bytes (i + 2) 0)) (get_or bytes (i + 3) 0)
-    → bytes_in next (drop (i + 4) bytes) ≡ crc_a bytes
-four_turn bytes i register next l h e =
-    let middle = byte_in (byte_in register (get_or bytes i 0)) (get_or bytes (i + 1) 0) in
-    let once : bytes_in middle (drop (i + 2) bytes) ≡ crc_a bytes = two_turn bytes i register middle (omega arith) h refl in
-    let three : i + 3 ≡ i + 2 + 1 = omega arith in
-    let four : i + 4 ≡ i + 2 + 2 = omega arith in
-    let e' : next ≡ byte_in (byte_in middle (get_or bytes (i + 2) 0)) (get_or bytes (i + 2 + 1) 0) = e ∙ ap (λ (k : ℕ). byte_in (byte_in middle (get_or bytes (i + 2) 0)) (get_or bytes k 0)) three in
-    ap (λ (k : ℕ). bytes_in next (drop k bytes)) four ∙ two_turn bytes (i + 2) middle next (omega arith) once e'
-
-byte_end : (bytes : List ℕ) (i register : ℕ) → length bytes ≤ i → bytes_in register (drop i bytes) ≡ crc_a bytes → register ≡ crc_a bytes
+-- two of the last bytes
+pub two_more : (rest : List ℕ) (register next : ℕ) → 2 ≤ length rest → next ≡ byte_in (byte_in register (get_or rest 0 0)) (get_or rest 1 0)
+    → bytes_in next (take (length rest - 2) (drop 2 rest)) ≡ bytes_in register rest
 unfolding bytes_in
-byte_end bytes i register l h = ap (bytes_in register) (sym (drop_of_length-le bytes l)) ∙ h
+two_more rest register next l e = rw (take_rest rest 2, e) (front rest l)
+  where
+    front : (xs : List ℕ) → 2 ≤ length xs → bytes_in (byte_in (byte_in register (get_or xs 0 0)) (get_or xs 1 0)) (drop 2 xs) ≡ bytes_in register xs
+    front (b0 ∷ b1 ∷ xs) l = refl
+    front (b0 ∷ []) l = absurd (omega arith)
+    front [] l = absurd (omega arith)
 
--- ---- the last bytes, less than four: two where there are so many, and one where their number is odd
+-- the last one, and none
+pub one_last : (rest : List ℕ) (register next : ℕ) → 1 ≤ length rest → length rest < 2 → next ≡ byte_in register (get_or rest 0 0) → next ≡ bytes_in register rest
+unfolding bytes_in
+one_last (b0 ∷ []) register next l m e = e
+one_last (b0 ∷ b1 ∷ xs) register next l m e = absurd (omega arith)
+one_last [] register next l m e = absurd (omega arith)
 
-module _ (bytes : List ℕ) (whole i register after : ℕ) (w : whole ≡ length bytes - length bytes % 4) (l : i ≤ whole) (k : whole ≤ i)
-    (h : bytes_in register (drop i bytes) ≡ crc_a bytes) where
-  at_whole : i ≡ whole
-  at_whole = omega arith
-
-  pub two_more_lem : (next : ℕ) → 2 ≤ length bytes % 4 → next ≡ byte_in (byte_in register (get_or bytes whole 0)) (get_or bytes (whole + 1) 0) → after ≡ next
-      → bytes_in after (drop (length bytes - length bytes % 2) bytes) ≡ crc_a bytes
-  two_more_lem next m e f =
-      let even : length bytes - length bytes % 2 ≡ whole + 2 = omega arith in
-      rw (f, even) (two_turn bytes whole register next (omega arith) (ap (λ (x : ℕ). bytes_in register (drop x bytes)) (sym at_whole) ∙ h) e)
-
-  pub none_more : length bytes % 4 < 2 → after ≡ register → bytes_in after (drop (length bytes - length bytes % 2) bytes) ≡ crc_a bytes
-  none_more m f =
-      let even : length bytes - length bytes % 2 ≡ i = omega arith in
-      rw (f, even) h
-
-pub last_byte : (bytes : List ℕ) (register next : ℕ) → bytes_in register (drop (length bytes - length bytes % 2) bytes) ≡ crc_a bytes → length bytes % 2 ≡ 1
-    → next ≡ byte_in register (get_or bytes (length bytes - 1) 0) → next ≡ crc_a bytes
-last_byte bytes register next h o e =
-    let i = length bytes - 1 in
-    let even : length bytes - length bytes % 2 ≡ i = omega arith in
-    byte_end bytes (i + 1) next (omega arith) (byte_turn bytes i register next (omega arith) (ap (λ (x : ℕ). bytes_in register (drop x bytes)) (sym even) ∙ h) e)
-
-pub no_byte : (bytes : List ℕ) (register : ℕ) → bytes_in register (drop (length bytes - length bytes % 2) bytes) ≡ crc_a bytes → length bytes % 2 ≡ 0
-    → register ≡ crc_a bytes
-no_byte bytes register h o = byte_end bytes (length bytes - length bytes % 2) register (omega arith) h
+pub none_last : (rest : List ℕ) (register : ℕ) → length rest < 1 → register ≡ bytes_in register rest
+unfolding bytes_in
+none_last [] register l = refl
+none_last (b ∷ xs) register l = absurd (omega arith)
 
 -- ---- behind a buffer's bytes
 
@@ -89,10 +70,12 @@ pub too_short : (frame : List ℕ) → length frame < 2 → false ≡ crc_right 
 unfolding crc_right
 too_short frame l = simp (lt-leb _ _ l)
 
-pub ends_with : (frame : List ℕ) (end' w c : ℕ) → 2 ≤ length frame → end' ≡ length frame - 2
-    → w ≡ low_first (get_or frame end' 0) (get_or frame (end' + 1) 0) → c ≡ crc_a (take end' frame) → eqb c w ≡ crc_right frame
+pub ends_with : (frame : List ℕ) (w c : ℕ) → 2 ≤ length frame → w ≡ low_first (get_or frame (length frame - 2) 0) (get_or frame (length frame - 1) 0)
+    → c ≡ crc_a (take (length frame - 2) frame) → eqb c w ≡ crc_right frame
 unfolding crc_right
-ends_with frame end' w c l e p h = rw (p, h, e) (simp (le-leb _ _ l))
+ends_with frame w c l h e =
+    let last : length frame - 1 ≡ length frame - 2 + 1 = omega arith in
+    rw (h, e, last) (simp (le-leb _ _ l))
 
 -- bytes with their CRC_A behind them
 pub with_crc_right : (bs : List ℕ) → crc_right (with_crc bs) ≡ true

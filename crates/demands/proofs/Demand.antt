@@ -9,8 +9,7 @@ use lib.ListN.{length}
 use Rattle.basics.proofs.Choice.{and_left, and_right, not_true}
 use Rattle.image.specs.declared.layout.Four.{Four}
 use Rattle.image.specs.declared.layout.Region.TheVariants.{User}
-use Rattle.image.specs.declared.layout.Size.{Size}
-use Rattle.image.specs.declared.layout.Size.TheVariants.{Pages, Unknown}
+use Rattle.std.specs.Prelude.{Option, Some, None}
 use Rattle.image.specs.Layout.{size_of, page_at, first_settings, pwd_page, region_of}
 use Rattle.image.specs.Settings.{auth0, settings_locked}
 use Rattle.image.specs.Write.{locked, NoneCleared}
@@ -36,7 +35,7 @@ record Guarded (n : ℕ) (img : List ℕ) (k : Kept) (is : List Input) : Type 0 
 
 -- demand 3 so far
 record SoFar (n : ℕ) (start : Kept) (run : List Input) (k : Kept) (is : List Input) : Type 0 where
-  size : size_of (length k.image) ≡ Pages n
+  size : size_of (length k.image) ≡ Some n
   user : (p : ℕ) → region_of n p ≡ User → last_written ours p k is (page_at k.image p) ≡ last_written ours p start run (page_at start.image p)
   cleared : NoneCleared n start.image k.image
   settings : settings_locked n start.image ≡ true → settings_locked n k.image ≡ true
@@ -44,7 +43,7 @@ record SoFar (n : ℕ) (start : Kept) (run : List Input) (k : Kept) (is : List I
   shut : (p : ℕ) → region_of n p ≡ User → locked n start.image p ≡ true → page_at k.image p ≡ page_at start.image p
   guarded : auth0 n start.image ≤ first_settings n → Guarded n start.image start run → Guarded n start.image k is
 
-guarded_next : (n : ℕ) (img : List ℕ) (k : Kept) (i : Input) (is : List Input) → size_of (length k.image) ≡ Pages n → auth0 n img ≤ first_settings n
+guarded_next : (n : ℕ) (img : List ℕ) (k : Kept) (i : Input) (is : List Input) → size_of (length k.image) ≡ Some n → auth0 n img ≤ first_settings n
     → Guarded n img k (i ∷ is) → Guarded n img (next ours k i) is
 unfolding none_offers
 guarded_next n img k i is size early g =
@@ -59,7 +58,7 @@ guarded_next n img k i is size early g =
       same = λ p h l. s.guarded g.out p (rw same_auth0 h) l ∙ g.same p h l;
     }
 
-module _ (n : ℕ) (start : Kept) (size : size_of (length start.image) ≡ Pages n) (run : List Input) where
+module _ (n : ℕ) (start : Kept) (size : size_of (length start.image) ≡ Some n) (run : List Input) where
   so_far_next : (k : Kept) (i : Input) (is : List Input) → SoFar n start run k (i ∷ is) → SoFar n start run (next ours k i) is
   unfolding last_written
   so_far_next k i is h =
@@ -87,7 +86,7 @@ module _ (n : ℕ) (start : Kept) (size : size_of (length start.image) ≡ Pages
 
 -- ---- DEMAND 3
 
-sized : (n : ℕ) (img : List ℕ) (run : List Input) → size_of (length img) ≡ Pages n → Demand3 ours n img run
+sized : (n : ℕ) (img : List ℕ) (run : List Input) → size_of (length img) ≡ Some n → Demand3 ours n img run
 unfolding image_after from_off last_written field_off
 sized n img run size =
     let start = from_off img in
@@ -103,16 +102,16 @@ sized n img run size =
       protected_stays = λ early none. (h.guarded early (record { out = ap authenticated (read_again field_off); none = none; same = λ p h l. refl })).same;
     }
 
-unsized : (img : List ℕ) (run : List Input) → size_of (length img) ≡ Unknown → image_after ours img run ≡ img
+unsized : (img : List ℕ) (run : List Input) → size_of (length img) ≡ None → image_after ours img run ≡ img
 unfolding image_after from_off
 unsized img run size = along ours (λ k _. k.image ≡ img) (λ k i is h. unsized_keeps k i (rw h size) ∙ h) run (from_off img) refl
 
 pub ours_keeps : Keeps3 ours
 ours_keeps img run = all (size_of (length img)) refl
   where
-    all : (s : Size) → size_of (length img) ≡ s → Holds s ours img run
-    all (Pages n) e = unfold Holds in sized n img run e
-    all Unknown e = unfold Holds in unsized img run e
+    all : (s : Option ℕ) → size_of (length img) ≡ s → Holds s ours img run
+    all (Some n) e = unfold Holds in sized n img run e
+    all None e = unfold Holds in unsized img run e
 
 pub demand3 : (call : Call) → Meets2 call → Keeps3 call
 demand3 = of_any Keeps3 ours_keeps

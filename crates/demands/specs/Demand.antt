@@ -1,9 +1,7 @@
 -- Demand 3, sentence by sentence: "Start with the field off, any image, and any run of frames and field losses, refused ones too, each on the
 -- image and tag record that the one before left, with no bus event in it." Assumes nothing.
-use Rattle.std.specs.Prelude.{◌≡◌, List, ◌++◌, true, ℕ, ◌≤◌, ◌<◌, length}
+use Rattle.std.specs.Prelude.{◌≡◌, List, ◌++◌, true, ℕ, ◌≤◌, ◌<◌, length, Option, Some, None}
 use Rattle.image.specs.declared.layout.Region.TheVariants.{User}
-use Rattle.image.specs.declared.layout.Size.{Size}
-use Rattle.image.specs.declared.layout.Size.TheVariants.{Pages, Unknown}
 use Rattle.image.specs.Layout.{size_of, page_at, first_settings, pwd_page, region_of}
 use Rattle.image.specs.Settings.{auth0, settings_locked}
 use Rattle.image.specs.Write.{locked, NoneCleared}
@@ -30,9 +28,9 @@ pub record Demand3 (call : Call) (n : ℕ) (img : List ℕ) (run : List Input) :
       → page_at (image_after call img run) p ≡ page_at img p
 
 -- of any image: one whose length has no size is refused at every call, and stays
-unfoldable pub Holds : Size → Call → List ℕ → List Input → Type 0
-Holds (Pages n) call img run = Demand3 call n img run
-Holds Unknown call img run = image_after call img run ≡ img
+unfoldable pub Holds : Option ℕ → Call → List ℕ → List Input → Type 0
+Holds (Some n) call img run = Demand3 call n img run
+Holds None call img run = image_after call img run ≡ img
 
 -- demand 3 of a tag, for any image and any run
 abbrev pub Keeps3 : Call → Type 0

@@ -1,23 +1,17 @@
 -- A page stored: the length stays, the page has its new bytes, and every other byte is kept. Assumes nothing.
 use mathlib.Core.Path.{◌≡◌, refl, sym, ap, ◌∙◌}
 use mathlib.Core.Logic.{◌≢◌}
-use mathlib.Core.List.{List, [], ◌∷◌, ◌++◌, append_assoc, append-nil}
+use mathlib.Core.List.{List, [], ◌∷◌, ◌++◌, append_assoc}
 use Prim.Native.Nat.{ℕ, zero, suc, ◌+◌, ◌-◌, ◌*◌, ◌≤◌, ◌<◌, zero-le, suc-le-suc}
 use native.Mathlib.Nat.{add-sub_cancel_left, not-suc-le-zero, le_of_suc-le-suc}
 use native.Mathlib.Omega.{arith}
-use lib.ListN.{length, get_or, take, drop, set, length-set, drop_of_length-le}
+use lib.ListN.{length, get_or, take, drop, set, length-set}
 use lib.Seq.{sets, sets-eq, length-sets, get_or-set_same, get_or-set_other, drop-drop}
 use borrow.Rule.Slice.PartMut.{put_mid}
 use Rattle.image.specs.Layout.{Fits, byte, page_at, bytes_of, store}
 use Rattle.image.specs.declared.layout.Four.{Four}
 
 -- ---- what the code leaves
-
--- the page writer has stored all four bytes: what was there is gone
-pub page_put : (page : List ℕ) (v : Four) → length page ≡ 4 → sets page 0 (bytes_of v) ≡ bytes_of v
-unfolding bytes_of
-page_put page v e =
-    sets-eq (bytes_of v) page 0 (omega arith) ∙ ap (λ (t : List ℕ). bytes_of v ++ t) (drop_of_length-le page {i = 0 + 4} (omega arith)) ∙ append-nil (bytes_of v)
 
 -- the part that was lent is back in the image
 pub part_back : (xs page : List ℕ) (at : ℕ) (v : Four) → at + 4 ≤ length xs → page ≡ bytes_of v → put_mid at (at + 4 - at) xs page ≡ sets xs at (bytes_of v)

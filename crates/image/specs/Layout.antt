@@ -1,16 +1,14 @@
 -- What the bytes of an image are, after document 01's "The image". Assumes nothing.
-use Rattle.std.specs.Prelude.{◌≡◌, List, [], ◌∷◌, map, cond, ℕ, ◌+◌, ◌-◌, ◌*◌, ◌≤◌, length, get_or, eqb, leb, ltb}
+use Rattle.std.specs.Prelude.{◌≡◌, List, [], ◌∷◌, map, cond, ℕ, ◌+◌, ◌-◌, ◌*◌, ◌/◌, ◌%◌, ◌≤◌, length, get_or, eqb, leb, ltb, Option, Some, None}
 use Rattle.std.proofs.lemmas.List.Edits.{sets}
 use Rattle.locks.specs.Locks.{Sized, lock_page}
 use Rattle.image.specs.declared.layout.Four.{Four}
-use Rattle.image.specs.declared.layout.Size.{Size}
-use Rattle.image.specs.declared.layout.Size.TheVariants.{Pages, Unknown}
 use Rattle.image.specs.declared.layout.Region.{Region}
 use Rattle.image.specs.declared.layout.Region.TheVariants.{Uid, StaticLocks, Capability, User, DynamicLocks, Settings, Password, Outside}
 
 -- "The length tells the size": the table's columns N and length
-unfoldable pub size_of : ℕ → Size
-size_of l = cond (eqb l 184) (Pages 45) (cond (eqb l 544) (Pages 135) (cond (eqb l 928) (Pages 231) Unknown))
+unfoldable pub size_of : ℕ → Option ℕ
+size_of l = cond (eqb l 184) (Some 45) (cond (eqb l 544) (Some 135) (cond (eqb l 928) (Some 231) None))
 
 -- "N pages of 4 bytes, then a 4-byte tail": img is an image of n pages
 pub record Fits (n : ℕ) (img : List ℕ) : Type 0 where
@@ -32,6 +30,14 @@ page_at img p = record { b0 = byte img p 0; b1 = byte img p 1; b2 = byte img p 2
 
 unfoldable pub bytes_of : Four → List ℕ
 bytes_of v = v.b0 ∷ v.b1 ∷ v.b2 ∷ v.b3 ∷ []
+
+-- "each four bytes low first": of a number of 32 bits, of which no more than a byte is left above the third
+unfoldable pub four_of : ℕ → Four
+four_of n = record { b0 = n % 256; b1 = n / 256 % 256; b2 = n / 65536 % 256; b3 = n / 16777216 }
+
+-- "each four bytes low first"
+unfoldable pub low_first_four : Four → ℕ
+low_first_four v = v.b0 + 256 * (v.b1 + 256 * (v.b2 + 256 * v.b3))
 
 -- the image with other bytes at page p
 unfoldable pub store : List ℕ → ℕ → Four → List ℕ
@@ -68,7 +74,7 @@ region_of n p =
 
 -- The table, row by row: N, length, last user page, dynamic lock, settings, PWD, PACK.
 pub record TableRow (n l last_user lock settings settings' pwd pack : ℕ) : Type 0 where
-  pub size : size_of l ≡ Pages n
+  pub size : size_of l ≡ Some n
   pub pages : lock_page n ∷ first_settings n ∷ second_settings n ∷ pwd_page n ∷ pack_page n ∷ [] ≡ lock ∷ settings ∷ settings' ∷ pwd ∷ pack ∷ []
   pub regions : map (region_of n) (0x04 ∷ last_user ∷ lock ∷ settings ∷ settings' ∷ pwd ∷ pack ∷ n ∷ [])
       ≡ User ∷ User ∷ DynamicLocks ∷ Settings ∷ Settings ∷ Password ∷ Password ∷ Outside ∷ []

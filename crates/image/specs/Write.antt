@@ -1,10 +1,10 @@
 -- Locks in an image, and what a WRITE that isn't refused leaves at its page. Assumes nothing.
-use Rattle.std.specs.Prelude.{List, Bool, ℕ, ◌<◌}
+use Rattle.std.specs.Prelude.{List, Bool, ℕ, ◌<◌, Option, is_some}
 use Rattle.std.specs.Int.Bits.{bit_or}
 use Rattle.basics.specs.Bytes.{low_first, low_byte, high_byte}
 use Rattle.locks.specs.Bits.{Gains}
 use Rattle.locks.specs.Locks as locks
-use Rattle.locks.specs.Locks.{lock_page, is_bit, static_gain, dynamic_gain, block_gain}
+use Rattle.locks.specs.Locks.{lock_page, static_gain, dynamic_gain, block_gain}
 use Rattle.locks.specs.declared.LockBit.{LockBit}
 use Rattle.image.specs.Layout.{byte, page_at, store, region_of}
 use Rattle.image.specs.declared.layout.Four.{Four}
@@ -24,11 +24,11 @@ unfoldable pub blocks : ℕ → List ℕ → ℕ
 blocks n img = byte img (lock_page n) 2
 
 -- which bit locks page p, page 3 or a user page, and whether one does
-unfoldable pub locked_by : ℕ → List ℕ → ℕ → LockBit
+unfoldable pub locked_by : ℕ → List ℕ → ℕ → Option LockBit
 locked_by n img p = locks.locked_by n (statics img) (dynamics n img) p
 
 abbrev pub locked : ℕ → List ℕ → ℕ → Bool
-locked n img p = is_bit (locked_by n img p)
+locked n img p = is_some (locked_by n img p)
 
 -- "Page 2 keeps bytes 0-1 and sets the bits of d2, d3 in its locks"
 unfoldable pub statics_written : Four → Four → Four

@@ -1,29 +1,23 @@
 // Sizes, regions, and the bytes of a page.
 ghost use Rattle.std.specs.Prelude.{◌≡◌, ℕ, ◌+◌, ◌*◌, ◌≤◌, ◌<◌, length};
 ghost use Rattle.std.proofs.lemmas.List.Edits.{sets};
-ghost use Rattle.image.specs.Layout.{size_of, byte, four_at, page_at, bytes_of, store, region_of};
+ghost use Rattle.image.specs.Layout.{size_of, byte, four_at, page_at, bytes_of, store, region_of, four_of, low_first_four};
 
-// The size that an image's length tells.
-#[derive(Clone, Copy)]
-pub enum Size {
-    Pages(usize),
-    Unknown,
-}
-
-#[tactic(auto, using(crate::proofs::Laws::unknown_size), unfolding(crate::specs::Layout::size_of))]
-pub fn size_of(length: usize) -> Size
+// How many pages an image has, where its length tells a size.
+#[tactic(auto, unfolding(crate::specs::Layout::size_of))]
+pub fn size_of(length: usize) -> Option<usize>
     ensures { result ≡ size_of length }
 {
     match length {
-        184 => Size::Pages(45),
-        544 => Size::Pages(135),
-        928 => Size::Pages(231),
-        _ => Size::Unknown,
+        184 => Some(45),
+        544 => Some(135),
+        928 => Some(231),
+        _ => None,
     }
 }
 
 // What a page is for.
-#[derive(Clone, Copy)]
+#[derive(Clone, Copy, PartialEq, Eq)]
 pub enum Region {
     Uid,
     StaticLocks,
@@ -36,6 +30,7 @@ pub enum Region {
 }
 
 // The region of a page from 4 on, by its distance from the end.
+#[tactic(auto, unfolding(crate::specs::Layout::region_of))]
 fn region_from_end(distance: usize) -> Region
     ensures { (n p : ℕ) → 4 ≤ p → p + distance ≡ n → 0 < distance → result ≡ region_of n p }
 {
@@ -47,6 +42,7 @@ fn region_from_end(distance: usize) -> Region
     }
 }
 
+#[tactic(auto, unfolding(crate::specs::Layout::region_of))]
 pub fn region_of(n: usize, page: usize) -> Region
     ensures { result ≡ region_of n page }
 {
@@ -62,15 +58,16 @@ pub fn region_of(n: usize, page: usize) -> Region
 }
 
 // Byte k of a page.
+#[tactic(auto, unfolding(crate::specs::Layout::byte))]
 pub fn byte(image: &[u8], page: usize, k: usize) -> u8
-    requires { (page ≤ 231) × (k < 4) × (4 * page + 4 ≤ length image.now) }
+    requires { (k < 4) × (4 * page + 4 ≤ length image.now) }
     ensures { result ≡ byte image.now page k }
 {
     image[4 * page + k]
 }
 
 // Four bytes, as those of a page.
-#[derive(Clone, Copy)]
+#[derive(Clone, Copy, PartialEq, Eq)]
 pub struct Four {
     pub b0: u8,
     pub b1: u8,
@@ -78,9 +75,31 @@ pub struct Four {
     pub b3: u8,
 }
 
+// The four bytes of a number, low byte first.
+impl From<u32> for Four {
+    ghost from_gives = { λ n v. v ≡ four_of n };
+
+    #[tactic(auto, unfolding(crate::specs::Layout::four_of))]
+    fn from(n: u32) -> Four {
+        let [b0, b1, b2, b3] = n.to_le_bytes();
+        Four { b0, b1, b2, b3 }
+    }
+}
+
+// And their number.
+impl From<Four> for u32 {
+    ghost from_gives = { λ v n. n ≡ low_first_four v };
+
+    #[tactic(auto, unfolding(crate::specs::Layout::low_first_four))]
+    fn from(v: Four) -> u32 {
+        u32::from_le_bytes([v.b0, v.b1, v.b2, v.b3])
+    }
+}
+
 // The four bytes from `at` on.
+#[tactic(auto, unfolding(crate::specs::Layout::four_at))]
 pub fn four_at(bytes: &[u8], at: usize) -> Four
-    requires { (at ≤ 924) × (at + 4 ≤ length bytes.now) }
+    requires { at + 4 ≤ length bytes.now }
     ensures { result ≡ four_at bytes.now at }
 {
     Four {
@@ -92,36 +111,36 @@ pub fn four_at(bytes: &[u8], at: usize) -> Four
 }
 
 // The four bytes of a page.
+#[tactic(auto, unfolding(crate::specs::Layout::page_at, crate::specs::Layout::four_at, crate::specs::Layout::byte))]
 pub fn page_at(image: &[u8], page: usize) -> Four
-    requires { (page ≤ 231) × (4 * page + 4 ≤ length image.now) }
+    requires { 4 * page + 4 ≤ length image.now }
     ensures { result ≡ page_at image.now page }
 {
     four_at(image, 4 * page)
 }
 
 // The page writer: four bytes are lent to it.
+#[tactic(auto, unfolding(crate::specs::Layout::bytes_of))]
 fn put(page: &mut [u8], v: Four)
     requires { length page.old ≡ 4 }
     ensures { page.new ≡ bytes_of v }
 {
-    page[0] = v.b0;
-    page[1] = v.b1;
-    page[2] = v.b2;
-    page[3] = v.b3;
+    page.copy_from_slice(&[v.b0, v.b1, v.b2, v.b3]);
 }
 
 // Other bytes from `at` on.
+#[tactic(auto, using(crate::proofs::Stored::part_back), unfolding(crate::specs::Layout::bytes_of))]
 pub fn put_at(bytes: &mut [u8], at: usize, v: Four)
-    requires { (at ≤ 924) × (at + 4 ≤ length bytes.old) }
+    requires { at + 4 ≤ length bytes.old }
     ensures { bytes.new ≡ sets bytes.old at (bytes_of v) }
 {
-    let end = at + 4;
-    put(&mut bytes[at..end], v);
+    put(&mut bytes[at..at + 4], v);
 }
 
 // Other bytes at a page.
+#[tactic(auto, unfolding(crate::specs::Layout::store))]
 pub fn store(image: &mut [u8], page: usize, v: Four)
-    requires { (page ≤ 231) × (4 * page + 4 ≤ length image.old) }
+    requires { 4 * page + 4 ≤ length image.old }
     ensures { image.new ≡ store image.old page v }
 {
     put_at(image, 4 * page, v);

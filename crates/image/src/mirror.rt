@@ -1,28 +1,19 @@
 // The ASCII mirror: what READ and FAST_READ show of the UID and the counter in the user pages.
-ghost use Rattle.std.specs.Prelude.{◌≡◌, ◌+◌, ◌≤◌};
+ghost use Rattle.std.specs.Prelude.{◌≡◌, ◌+◌, ◌≤◌, IfSome, IsTrue};
 ghost use Rattle.image.specs.Layout.{Fits};
-ghost use Rattle.image.specs.Mirror.{none, is_chosen, chosen, wanted, text, mirror_for, replaced, replaced_page};
+ghost use Rattle.image.specs.Mirror.{is_chosen, chosen, wanted, text, allowed, mirror_for, replaced, replaced_page};
 
 use crate::layout::{Four, byte, page_at};
 use crate::settings::count_readable;
-use basics::{high_char, low_char, to_usize};
+use basics::{high_char, low_char};
 
-// `length` characters of the text, from its character `from` on, stand from byte `start` of the image on.
-#[derive(Clone, Copy)]
+// `length` characters of the text, from its character `from` on, stand from byte `start` of the image on. That they are characters of the text,
+// `from + length ≤ 21`, is said by contracts and not by the type: the definitions make mirrors too, and each would have to prove it.
+#[derive(Clone, Copy, PartialEq, Eq)]
 pub struct Mirror {
     pub start: usize,
     pub length: usize,
     pub from: usize,
-}
-
-fn none() -> Mirror
-    ensures { result ≡ none }
-{
-    Mirror {
-        start: 0,
-        length: 0,
-        from: 0,
-    }
 }
 
 // Whether the settings choose one: most boards have none.
@@ -34,60 +25,66 @@ pub fn is_chosen(image: &[u8], n: usize) -> bool
 }
 
 // What the mode chooses, to stand from `start` on: of the text, which is the UID, 78h and the counter.
-fn chosen(mode: u8, start: usize) -> Mirror
-    ensures { (result ≡ chosen mode start) × (result.start ≤ start) × (result.from + result.length ≤ 21) }
+#[tactic(auto, unfolding(crate::specs::Mirror::chosen))]
+fn chosen(mode: u8, start: usize) -> Option<Mirror>
+    ensures value { result ≡ chosen mode start }
+    ensures within { IfSome result (λ m. (m.start ≡ start) × (m.from + m.length ≤ 21)) }
 {
     match mode {
-        0 => none(),
-        1 => Mirror {
+        0 => None,
+        1 => Some(Mirror {
             start,
             length: 14,
             from: 0,
-        },
-        2 => Mirror {
+        }),
+        2 => Some(Mirror {
             start,
             length: 6,
             from: 15,
-        },
-        _ => Mirror {
+        }),
+        _ => Some(Mirror {
             start,
             length: 21,
             from: 0,
-        },
+        }),
     }
 }
 
 // What the first settings page asks for.
-fn wanted(settings: Four) -> Mirror
-    ensures { (result ≡ wanted settings) × (result.start ≤ 1023) × (result.from + result.length ≤ 21) }
+#[tactic(auto, unfolding(crate::specs::Mirror::wanted))]
+fn wanted(settings: Four) -> Option<Mirror>
+    ensures value { result ≡ wanted settings }
+    ensures within { IfSome result (λ m. (m.start ≤ 1023) × (m.from + m.length ≤ 21)) }
 {
-    let start = 4 * to_usize(settings.b2) + to_usize(settings.b0 / 16 % 4);
+    let start = 4 * usize::from(settings.b2) + usize::from(settings.b0 / 16 % 4);
     chosen(settings.b0 / 64, start)
 }
 
-// The mirror that a reader sees, who is authenticated or not. It lies in the user pages; with the counter in it, the counter must be readable.
-pub fn mirror_for(image: &[u8], n: usize, authenticated: bool) -> Mirror
-    requires { Fits n image.now }
-    ensures { (result ≡ mirror_for n image.now authenticated) × (result.start + result.length ≤ 904) × (result.from + result.length ≤ 21) }
+// Whether a mirror lies in the user pages, and, where it has the counter in it, the counter is readable.
+#[tactic(auto, unfolding(crate::specs::Mirror::allowed))]
+fn is_allowed(image: &[u8], n: usize, authenticated: bool, m: Mirror) -> bool
+    requires { Fits n image.now × (m.start ≤ 1023) × (m.from + m.length ≤ 21) }
+    ensures value { result ≡ allowed n image.now authenticated m }
+    ensures within { IsTrue result → m.start + m.length ≤ 904 }
 {
-    let m = wanted(page_at(image, n - 4));
-    if m.start < 16 {
-        return none();
-    }
-    if 4 * (n - 5) < m.start + m.length {
-        return none();
-    }
-    if m.from + m.length <= 15 {
-        return m;
-    }
-    if count_readable(image, n, authenticated) {
-        m
-    } else {
-        none()
-    }
+    16 <= m.start
+        && m.start + m.length <= 4 * (n - 5)
+        && (m.from + m.length <= 15 || count_readable(image, n, authenticated))
+}
+
+// The mirror that a reader sees, who is authenticated or not.
+#[tactic(auto, unfolding(crate::specs::Mirror::mirror_for))]
+pub fn mirror_for(image: &[u8], n: usize, authenticated: bool) -> Option<Mirror>
+    requires { Fits n image.now }
+    ensures value { result ≡ mirror_for n image.now authenticated }
+    ensures within { IfSome result (λ m. (m.start + m.length ≤ 904) × (m.from + m.length ≤ 21)) }
+{
+    let m = wanted(page_at(image, n - 4))?;
+    is_allowed(image, n, authenticated, m).then_some(m)
 }
 
 // All that a mirror can show: the UID, 78h, the counter.
+#[tactic(auto, unfolding(crate::specs::Mirror::text, crate::specs::Uid::uid, crate::specs::Layout::page_at))]
 pub fn text(image: &[u8], n: usize) -> [u8; 21]
     requires { Fits n image.now }
     ensures { result ≡ text n image.now }
@@ -121,22 +118,20 @@ pub fn text(image: &[u8], n: usize) -> [u8; 21]
 }
 
 // What the mirror shows at byte `at` of the image, which is otherwise shown as b.
+#[tactic(auto, unfolding(crate::specs::Mirror::replaced))]
 fn replaced(characters: &[u8; 21], m: Mirror, at: usize, b: u8) -> u8
     requires { m.from + m.length ≤ 21 }
     ensures { result ≡ replaced characters.now m at b }
 {
-    if at < m.start {
-        return b;
-    }
-    let i = at - m.start;
-    if i < m.length {
-        characters[m.from + i]
+    if m.start <= at && at - m.start < m.length {
+        characters[m.from + (at - m.start)]
     } else {
         b
     }
 }
 
 // The four bytes of a page through the mirror, which are otherwise shown as v.
+#[tactic(auto, unfolding(crate::specs::Mirror::replaced_page))]
 pub fn replaced_page(characters: &[u8; 21], m: Mirror, page: usize, v: Four) -> Four
     requires { (m.from + m.length ≤ 21) × (page ≤ 231) }
     ensures { result ≡ replaced_page characters.now m page v }

@@ -24,7 +24,7 @@ fn access_bit(image: &[u8], n: usize, i: usize) -> bool
     requires { Fits n image.now × (i < 8) }
     ensures { result ≡ is_set (access n image.now) i }
 {
-    locks::is_set(access(image, n) as u16, i)
+    locks::is_set(u16::from(access(image, n)), i)
 }
 
 pub fn prot(image: &[u8], n: usize) -> bool
@@ -64,17 +64,10 @@ pub fn authlim(image: &[u8], n: usize) -> u8
 }
 
 // Whether the counter may be shown to a reader that is authenticated or not.
+#[tactic(auto, unfolding(crate::specs::Settings::count_readable))]
 pub fn count_readable(image: &[u8], n: usize, authenticated: bool) -> bool
     requires { Fits n image.now }
     ensures { result ≡ count_readable n image.now authenticated }
 {
-    if counter_on(image, n) {
-        if counter_guarded(image, n) {
-            authenticated
-        } else {
-            true
-        }
-    } else {
-        false
-    }
+    counter_on(image, n) && (authenticated || !counter_guarded(image, n))
 }

@@ -4,7 +4,6 @@ ghost use Rattle.image.specs.Layout.{Fits, page_at, store};
 ghost use Rattle.image.specs.Tail.{failed, next_count, counted, with_failed};
 
 use crate::layout::{Four, byte, page_at, store};
-use basics::to_u32;
 
 // The failed-password count.
 pub fn failed(image: &[u8], n: usize) -> u8
@@ -14,15 +13,16 @@ pub fn failed(image: &[u8], n: usize) -> u8
     byte(image, n, 3)
 }
 
+#[tactic(auto, unfolding(crate::specs::Tail::with_failed))]
 pub fn set_failed(image: &mut [u8], n: usize, count: u8)
     requires { Fits n image.old }
     ensures { image.new ≡ store image.old n (with_failed count (page_at image.old n)) }
 {
-    let mut tail = page_at(image, n);
-    tail.b3 = count;
-    store(image, n, tail);
+    let tail = page_at(image, n);
+    store(image, n, Four { b3: count, ..tail });
 }
 
+#[tactic(auto, unfolding(crate::specs::Tail::next_count))]
 fn next_count(c: u32) -> u32
     requires { c ≤ 0xFFFFFF }
     ensures { (result ≡ next_count c) × (result ≤ 0xFFFFFF) }
@@ -30,16 +30,13 @@ fn next_count(c: u32) -> u32
     if c < 0xFFFFFF { c + 1 } else { c }
 }
 
+#[tactic(auto, unfolding(crate::specs::Tail::counted, crate::specs::Tail::counter_in))]
 fn counted(tail: Four) -> Four
     ensures { result ≡ counted tail }
 {
-    let c = next_count(to_u32(tail.b0) + 256 * to_u32(tail.b1) + 65536 * to_u32(tail.b2));
-    Four {
-        b0: (c % 256) as u8,
-        b1: (c / 256 % 256) as u8,
-        b2: (c / 65536) as u8,
-        b3: tail.b3,
-    }
+    let count = u32::from_le_bytes([tail.b0, tail.b1, tail.b2, 0]);
+    let [b0, b1, b2, _] = next_count(count).to_le_bytes();
+    Four { b0, b1, b2, ..tail }
 }
 
 // One more on the counter.

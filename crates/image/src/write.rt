@@ -8,8 +8,9 @@ use crate::layout::{Four, Region, page_at, region_of, store};
 use basics::{high_byte, low_byte, low_first};
 use locks::LockBit;
 
-// The bit that is set and locks a page, page 3 or a user page, or none.
-pub fn locked_by(image: &[u8], n: usize, page: usize) -> LockBit
+// The bit that is set and locks a page, page 3 or a user page.
+#[tactic(auto, unfolding(crate::specs::Write::locked_by, crate::specs::Write::statics, crate::specs::Write::dynamics, crate::specs::Layout::page_at))]
+pub fn locked_by(image: &[u8], n: usize, page: usize) -> Option<LockBit>
     requires { Fits n image.now }
     ensures { result ≡ locked_by n image.now page }
 {
@@ -23,6 +24,7 @@ pub fn locked_by(image: &[u8], n: usize, page: usize) -> LockBit
     )
 }
 
+#[tactic(auto, unfolding(crate::specs::Write::statics_written))]
 fn statics_written(old: Four, d: Four) -> Four
     ensures { result ≡ statics_written old d }
 {
@@ -35,6 +37,7 @@ fn statics_written(old: Four, d: Four) -> Four
     }
 }
 
+#[tactic(auto, unfolding(crate::specs::Write::capability_written))]
 fn capability_written(old: Four, d: Four) -> Four
     ensures { result ≡ capability_written old d }
 {
@@ -46,6 +49,7 @@ fn capability_written(old: Four, d: Four) -> Four
     }
 }
 
+#[tactic(auto, unfolding(crate::specs::Write::dynamics_written))]
 fn dynamics_written(n: usize, old: Four, d: Four) -> Four
     requires { Sized n }
     ensures { result ≡ dynamics_written n old d }
@@ -59,14 +63,14 @@ fn dynamics_written(n: usize, old: Four, d: Four) -> Four
     }
 }
 
-// What a WRITE of d that isn't refused does.
+// What a WRITE of d that isn't refused does. Each way stores by itself: with one store behind the match a user page takes eleven instructions more.
+#[tactic(auto, unfolding(crate::specs::Write::write, crate::specs::Write::written, crate::specs::Write::written_in))]
 pub fn write(image: &mut [u8], n: usize, page: usize, d: Four)
     requires { Fits n image.old × (page < n) }
     ensures { image.new ≡ write n image.old page d }
 {
     let old = page_at(image, page);
-    let region = region_of(n, page);
-    match region {
+    match region_of(n, page) {
         Region::StaticLocks => store(image, page, statics_written(old, d)),
         Region::Capability => store(image, page, capability_written(old, d)),
         Region::DynamicLocks => store(image, page, dynamics_written(n, old, d)),

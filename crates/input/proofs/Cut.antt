@@ -1,49 +1,99 @@
 -- Laws of how lines are cut from the input: which bytes a line holds, and what is ahead then. Assumes nothing.
 use Prim.Native.Nat.{ℕ, zero, suc, ◌+◌, ◌-◌, ◌<◌, ◌≤◌}
-use mathlib.Core.Path.{◌≡◌, refl, sym, ap, ap₂, ◌∙◌}
-use mathlib.Core.Bool.{true, false, ◌||◌}
+use mathlib.Core.Path.{◌≡◌, sym, ap, subst, ◌∙◌}
+use mathlib.Core.Bool.{or-true}
 use mathlib.Core.List.{List, [], ◌∷◌, ◌++◌, append-nil}
 use native.Mathlib.Omega.{arith}
-use lib.Dec.{eqb}
+use lib.Dec.{leb}
 use lib.ListN.{length, take, drop, length-take, length-drop, length-append, drop_of_length-le}
 use lib.Seq.{take-nil, take_all, take-take, take-append-add, drop-drop, length-take-le}
-use borrow.Author.Tests.{lt-ltb, le-ltb}
-use Rattle.basics.proofs.Choice.{never}
+use borrow.Author.Tests.{lt-ltb, le-ltb, ne_eqb, leb-true, leb-false}
+use Rattle.std.specs.Prelude.{Result, Ok, Err, IsOk, OnOk, ◌↔◌, min}
+use Rattle.std.specs.Result.{result_unwrap_or}
+use Rattle.std.specs.Io.{ReadsAtMost}
+use Rattle.basics.proofs.Choice.{never, split}
 use Rattle.basics.specs.Runs.{index_of, slice}
-use Rattle.laying.specs.Parts.{word, Laid}
 use Rattle.input.specs.Lines.{first_line, has_newline}
-use Rattle.input.specs.Reading.{line_room, kept, ahead, Reads, Refills, Advances}
-use Rattle.input.specs.declared.Input.{Input}
+use Rattle.input.specs.Reading.{line_room, kept, Held, Advances}
+use Rattle.input.specs.declared.Step.TheVariants as step
 
 -- ---- bytes behind a line, as many as it has room for
 
-module _ (line out chunk : List ℕ) (len from to : ℕ) (some : (len ≤ length line) × (from ≤ to) × (to ≤ length chunk)) where
-  abbrev more : List ℕ
-  more = take (to - from) (drop from chunk)
+pub append_kept : {T E : Type 0} (line bytes new : List ℕ) (room count : ℕ) (r : Result T E) → room + length line ≡ line_room
+    → count ≡ min room (length bytes)
+    → IsOk r ↔ (length line + length (take count bytes) ≤ line_room)
+    → OnOk r (new ≡ line ++ take count bytes)
+    → new ≡ kept (line ++ bytes)
+append_kept line bytes new room count (Ok x) e f v o =
+    split (leb (length bytes) room)
+    (λ t. let l : length bytes ≤ room = leb-true (length bytes) room t in
+    let q : count ≡ length bytes = omega (arith, f, l) in
+    let n : length (line ++ bytes) ≤ line_room = simp length-append (omega (arith, e, l)) in
+    o ∙ ap (λ (xs : List ℕ). line ++ xs) (ap (λ (k : ℕ). take k bytes) q ∙ take_all (length bytes) bytes (omega arith)) ∙ sym (take_all line_room (line ++ bytes) n))
+    (λ t. let l : room < length bytes = leb-false (length bytes) room t in
+    let q : length line + count ≡ line_room = omega (arith, e, f, l) in
+    o ∙ sym (take-append-add line bytes count) ∙ ap (λ (k : ℕ). take k (line ++ bytes)) q)
+append_kept line bytes new room count (Err x) e f v o =
+    let k : count ≤ length bytes = omega (arith, f) in
+    let m : length (take count bytes) ≡ count = length-take-le count bytes k in
+    absurd (never (sym (v.1 (omega (arith, e, f, m)))))
 
-  more_length : length more ≡ to - from
-  more_length = simp (length-take, length-drop) (omega (arith, some.1, some.2))
+pub kept_few : (l new : List ℕ) → new ≡ kept l → length new ≤ line_room
+kept_few l new e = let q : length new ≡ length (kept l) = ap length e in omega (arith, q, length-take line_room l)
 
-  front_length : length (take len line) ≡ len
-  front_length = length-take-le len line some.0
+-- ---- what is ahead: how much it is
 
-  pub append_all : (r : ℕ) → to - from ≤ length line - len → Laid (word more) len r line out → take r out ≡ take (length line) (take len line ++ more)
-  append_all r few l =
-      let n : length (take len line ++ more) ≤ length line = simp length-append (omega (arith, some.0, front_length, more_length)) in
-      l.front ∙ sym (take_all (length line) (take len line ++ more) n)
+pub ahead_length : (chunk : List ℕ) (at end : ℕ) → end ≤ length chunk → length (slice at end chunk) ≡ end - at
+unfolding slice
+ahead_length chunk at end few = simp (length-drop, length-take) (omega (arith, few))
 
-  pub append_cut : (r : ℕ) → length line - len < to - from
-      → Laid (word (take (from + (length line - len) - from) (drop from chunk))) len r line out
-      → take r out ≡ take (length line) (take len line ++ more)
-  append_cut r many l =
-      let room = length line - len in
-      let p : from + room - from ≡ room = omega arith in
-      let q : length (take len line) + room ≡ length line = omega (arith, some.0, front_length) in
-      l.front
-      ∙ ap (λ (k : ℕ). take len line ++ take k (drop from chunk)) p
-      ∙ ap (λ (x : List ℕ). take len line ++ x) (sym (take-take room (to - from) (drop from chunk) (omega arith)))
-      ∙ sym (take-append-add (take len line) more room)
-      ∙ ap (λ (k : ℕ). take k (take len line ++ more)) q
+pub none_ahead : (chunk : List ℕ) (at end : ℕ) → end ≤ at → slice at end chunk ≡ []
+unfolding slice
+none_ahead chunk at end h =
+    let t : length (take end chunk) ≤ at = simp length-take (omega arith) in
+    drop_of_length-le (take end chunk) t
+
+pub some_ahead : (chunk : List ℕ) (at end : ℕ) → end ≤ length chunk → at < end → slice at end chunk ≡ [] → ⊥
+some_ahead chunk at end few h e = omega (arith, ahead_length chunk at end few, ap length e)
+
+-- ---- a read
+
+-- no more bytes than the chunk has room for
+read_few : {E : Type 0} (r : Result ℕ E) (chunk : List ℕ) (n : ℕ) → ReadsAtMost r chunk → n ≡ result_unwrap_or r 0 → n ≤ length chunk
+read_few (Ok k) chunk n b e = omega (arith, b.0, e)
+read_few (Err x) chunk n b e = omega (arith, e)
+
+module _ (i : Held) (line chunk : List ℕ) (n : ℕ) (few : length line ≤ line_room) (same : line ≡ i.line) (none : i.ahead ≡ []) where
+  line_stays : line ≡ kept (i.line ++ first_line i.ahead)
+  unfolding index_of
+  line_stays =
+      sym (take_all line_room line few)
+      ∙ ap kept (same ∙ sym (append-nil i.line))
+      ∙ ap (λ (x : List ℕ). kept (i.line ++ first_line x)) (sym none)
+
+  pub read_end : 0 ≡ n → Advances i step.End (record { ahead = slice 0 n chunk; line = line })
+  read_end e =
+      let q : length (slice 0 n chunk) ≡ 0 = ap length (none_ahead chunk 0 n (omega (arith, e))) in
+      record {
+        line = line_stays;
+        whole = sym (or-true (has_newline i.ahead));
+        moves = record { behind = (λ some. absurd (some (ap length none))); over = (λ h. ap length none); ended = (λ h. rw q) };
+      }
+
+  pub read_some : {E : Type 0} (r : Result ℕ E) → ReadsAtMost r chunk → n ≡ result_unwrap_or r 0 → (0 ≡ n → ⊥)
+      → Advances i step.Part (record { ahead = slice 0 n chunk; line = line })
+  unfolding slice index_of
+  read_some r b f some =
+      let q : length (slice 0 n chunk) ≡ n = ahead_length chunk 0 n (read_few r chunk n b f) ∙ omega arith in
+      record {
+        line = line_stays;
+        whole = rw none;
+        moves = record {
+          behind = (λ s. absurd (s (ap length none)));
+          over = (λ h. ap length none);
+          ended = (λ h. sym (ne_eqb (length (slice 0 n chunk)) 0 (λ z. some (omega (arith, q, z)))));
+        };
+      }
 
 -- ---- what is ahead, up to its first newline
 
@@ -54,86 +104,59 @@ part (suc n) zero l = let p : 0 - suc n ≡ 0 = omega arith in ap (λ (k : ℕ).
 part (suc n) (suc m) [] = sym (take-nil (suc m - suc n))
 part (suc n) (suc m) (x ∷ l) = let p : suc m - suc n ≡ m - n = omega arith in part n m l ∙ ap (λ (k : ℕ). take k (drop n l)) (sym p)
 
-module _ (i : Input) (line out chunk : List ℕ) (stop len : ℕ) (reads : Reads i) (size : length chunk ≡ 4096) (room : length line ≡ line_room)
-    (found : stop ≡ i.at + index_of 10 (slice i.at i.end chunk)) (within : stop ≤ i.end) (few : len ≤ length line)
-    (laid : take len out ≡ take (length line) (take i.len line ++ take (stop - i.at) (drop i.at chunk))) where
+module _ (i : Held) (line out chunk : List ℕ) (at end stop : ℕ) (is : record { ahead = slice at end chunk; line = line } ≡ i) (fits : end ≤ length chunk)
+    (some : i.ahead ≡ [] → ⊥) (found : stop ≡ at + index_of 10 (slice at end chunk)) (within : stop ≤ end)
+    (laid : out ≡ kept (line ++ take (stop - at) (drop at chunk))) where
   abbrev a : List ℕ
-  a = ahead i chunk
+  a = slice at end chunk
 
-  ahead_length : length a ≡ i.end - i.at
-  unfolding slice
-  ahead_length = simp (length-drop, length-take) (omega (arith, reads.at, reads.end))
+  begun : at < end
+  begun =
+      split (leb end at)
+      (λ e. absurd (some (sym (ap (λ (x : Held). x.ahead) is) ∙ none_ahead chunk at end (leb-true end at e))))
+      (λ e. leb-false end at e)
 
-  first_is : take (stop - i.at) (drop i.at chunk) ≡ first_line a
+  many : length a ≡ end - at
+  many = ahead_length chunk at end fits
+
+  first_is : take (stop - at) (drop at chunk) ≡ first_line a
   unfolding slice
   first_is =
-      let p : index_of 10 a ≡ stop - i.at = omega (arith, found) in
-      let q : stop - i.at ≤ i.end - i.at = omega (arith, within) in
-      sym (ap (λ (k : ℕ). take k a) p ∙ ap (take (stop - i.at)) (part i.at i.end chunk) ∙ take-take (stop - i.at) (i.end - i.at) (drop i.at chunk) q)
+      let p : index_of 10 a ≡ stop - at = omega (arith, found) in
+      let q : stop - at ≤ end - at = omega (arith, within) in
+      sym (ap (λ (k : ℕ). take k a) p ∙ ap (take (stop - at)) (part at end chunk) ∙ take-take (stop - at) (end - at) (drop at chunk) q)
 
-  line_is : take len out ≡ kept (take i.len line ++ first_line a)
-  line_is = laid ∙ ap₂ (λ (n : ℕ) (x : List ℕ). take n (take i.len line ++ x)) room first_is
+  line_is : out ≡ kept (line ++ first_line a)
+  line_is = laid ∙ ap (λ (x : List ℕ). kept (line ++ x)) first_is
 
-  pub line_ended : stop < i.end → Advances (take i.len line) a (record { at = stop + 1; end = i.end; len = len; whole = true; over = false }) out chunk
+  pub line_ended : stop < end → Advances i step.Line (record { ahead = slice (stop + 1) end chunk; line = out })
   unfolding slice
   line_ended h =
-      let p : index_of 10 a < length a = omega (arith, found, ahead_length, reads.at) in
-      let q : i.at + (index_of 10 a + 1) ≡ stop + 1 = omega (arith, found) in
-      record {
-        reads = record { at = omega arith; end = reads.end; len = omega (arith, few, room) };
+      let p : index_of 10 a < length a = omega (arith, found, many, begun) in
+      let q : at + (index_of 10 a + 1) ≡ stop + 1 = omega (arith, found) in
+      subst (λ (x : Held). Advances x step.Line (record { ahead = slice (stop + 1) end chunk; line = out })) is
+      (record {
         line = line_is;
         whole = rw (lt-ltb (index_of 10 a) (length a) p);
         moves = record {
-          behind = (λ n. sym (drop-drop (index_of 10 a + 1) i.at (take i.end chunk) ∙ ap (λ (k : ℕ). drop k (take i.end chunk)) q));
+          behind = (λ n. sym (drop-drop (index_of 10 a + 1) at (take end chunk) ∙ ap (λ (k : ℕ). drop k (take end chunk)) q));
           over = (λ e. never (sym e));
-          ended = (λ e. absurd (omega arith));
+          ended = (λ e. absurd (omega (arith, p)));
         };
-      }
+      })
 
-  pub line_open : i.at < i.end → i.end ≤ stop → Advances (take i.len line) a (record { at = i.end; end = i.end; len = len; whole = false; over = false }) out chunk
+  pub line_open : end ≤ stop → Advances i step.Part (record { ahead = slice end end chunk; line = out })
   unfolding slice
-  line_open s h =
-      let p : length a ≤ index_of 10 a = omega (arith, found, ahead_length) in
+  line_open h =
+      let p : length a ≤ index_of 10 a = omega (arith, found, many) in
       let q : length a ≤ index_of 10 a + 1 = omega arith in
-      let t : length (take i.end chunk) ≤ i.end = simp length-take (omega arith) in
-      record {
-        reads = record { at = omega arith; end = reads.end; len = omega (arith, few, room) };
+      subst (λ (x : Held). Advances x step.Part (record { ahead = slice end end chunk; line = out })) is
+      (record {
         line = line_is;
         whole = rw (le-ltb (index_of 10 a) (length a) p);
         moves = record {
-          behind = (λ n. drop_of_length-le (take i.end chunk) t ∙ sym (drop_of_length-le a q));
+          behind = (λ n. none_ahead chunk end end (omega arith) ∙ sym (drop_of_length-le a q));
           over = (λ e. never (sym e));
-          ended = (λ e. absurd (omega (arith, ahead_length)));
+          ended = (λ e. absurd (omega (arith, many, begun)));
         };
-      }
-
--- ---- a read
-
-pub refilled_by : (i : Input) (n : ℕ) → Reads i → n ≤ 4096
-    → Refills i n (record { at = 0; end = n; len = i.len; whole = eqb n 0; over = eqb n 0 })
-unfolding slice
-refilled_by i n reads few =
-    record { reads = record { at = omega arith; end = few; len = reads.len }; bytes = (λ chunk. refl); line = refl; whole = refl; over = refl }
-
-pub refilled_line : (i r : Input) (line chunk got : List ℕ) (n : ℕ) → Refills i n r → Reads i → i.end ≤ i.at → n ≤ length got
-    → Advances (take i.len line) (ahead i chunk) r line got
-unfolding slice index_of
-refilled_line i r line chunk got n refills reads none few =
-    let t : length (take i.end chunk) ≤ i.at = simp length-take (omega arith) in
-    let a : ahead i chunk ≡ [] = drop_of_length-le (take i.end chunk) t in
-    let l : length (take i.len line) ≤ line_room = simp length-take (omega (arith, reads.len)) in
-    let g : length (ahead r got) ≡ n = ap length (refills.bytes got) ∙ length-take-le n got few in
-    record {
-      reads = refills.reads;
-      line =
-          ap (λ (k : ℕ). take k line) refills.line
-          ∙ sym (take_all line_room (take i.len line) l)
-          ∙ ap kept (sym (append-nil (take i.len line)))
-          ∙ ap (λ (x : List ℕ). kept (take i.len line ++ first_line x)) (sym a);
-      whole = refills.whole ∙ sym refills.over ∙ ap (λ (x : List ℕ). has_newline x || r.over) (sym a);
-      moves = record {
-        behind = (λ some. absurd (some (ap length a)));
-        over = (λ e. ap length a);
-        ended = (λ e. refills.over ∙ ap (λ (k : ℕ). eqb k 0) (sym g));
-      };
-    }
+      })

@@ -1,18 +1,19 @@
 -- Laws of turns: what the program has said and kept behind each, and behind all of them. Assumes nothing.
-use Prim.Native.Nat.{ℕ, zero, suc, ◌+◌}
+use Prim.Native.Nat.{ℕ, zero, suc, ◌+◌, ◌≤◌}
 use mathlib.Core.Path.{◌≡◌, refl, sym, ap, ap₂, ◌∙◌}
 use mathlib.Core.Bool.{Bool, true, false, cond, ◌||◌, or-false}
 use mathlib.Core.List.{List, [], ◌∷◌, ◌++◌, append_assoc, append-nil}
 use native.Mathlib.Omega.{arith}
 use lib.Dec.{eqb, ltb}
-use lib.ListN.{length, take, drop}
+use lib.ListN.{length, take, drop, length-append, length-drop}
 use borrow.Author.Tests.{lt-ltb, le-ltb, ltb-true, ltb-false, eqb-true, eqb-false}
 use Rattle.basics.proofs.Choice.{split}
-use Rattle.basics.specs.Runs.{index_after, index_of, slice}
+use Rattle.basics.specs.Runs.{index_after, index_of}
 use Rattle.input.specs.Lines.{Program, answer_to, kept_after, first_line, has_newline, behind_line}
-use Rattle.input.specs.Reading.{line_room, kept, ahead, Begins, Advances}
+use Rattle.input.specs.Reading.{line_room, kept, Held, is_whole, is_over, Advances}
+use Rattle.input.specs.declared.Step.{Step}
+use Rattle.input.specs.declared.Step.TheVariants as step
 use Rattle.input.specs.Running.{Typing, came, typed, start, kept_at_end, LongAlike, Stands, Turns, Goes, Reached, AtEnd}
-use Rattle.input.specs.declared.Input.{Input}
 use Rattle.input.proofs.Long.{answer_kept, next_kept}
 
 -- ---- one turn
@@ -23,42 +24,75 @@ kept_more zero l xs = refl
 kept_more (suc n) [] xs = refl
 kept_more (suc n) (x ∷ l) xs = ap (λ (r : List ℕ). x ∷ r) (kept_more n l xs)
 
-module _ {Kept : Type 0} (p : Program Kept) (alike : LongAlike p) (t : Typing Kept) (k : Kept) (input moved : Input) (line buf chunk got : List ℕ)
-    (stands : Stands t k input line) (step : Advances (take input.len line) (ahead input chunk) moved buf got) where
-  abbrev come : List ℕ
-  come = first_line (ahead input chunk)
+module _ {Kept : Type 0} (p : Program Kept) (alike : LongAlike p) (k : Kept) (i moved : Held) (s : Step) (step : Advances i s moved) where
+  -- from wherever the program stands
+  module _ (t : Typing Kept) (stands : Stands t k i) where
+    abbrev come : List ℕ
+    come = first_line i.ahead
 
-  line_kept : take moved.len buf ≡ kept (t.line ++ come)
-  line_kept = step.line ∙ ap (λ (g : List ℕ). kept (g ++ come)) stands.line ∙ kept_more line_room t.line come
+    line_kept : moved.line ≡ kept (t.line ++ come)
+    line_kept = step.line ∙ ap (λ (g : List ℕ). kept (g ++ come)) stands.line ∙ kept_more line_room t.line come
 
-  pub turn_answers : (k' : Kept) (next : Input) (said : ℕ) (out : List ℕ) → moved.whole ≡ true
-      → k' ≡ kept_after p k (take moved.len buf)
-      → take said out ≡ answer_to p k (take moved.len buf)
-      → Begins moved next
-      → Turns p t (ahead input chunk) k' next said buf got out
-  turn_answers k' next said out whole left answer begins =
-      let ended : (has_newline (ahead input chunk) || next.over) ≡ true = ap (λ (o : Bool). has_newline (ahead input chunk) || o) begins.over ∙ sym step.whole ∙ whole in
-      record {
-        stands = rw ended (record {
-          keeps = left ∙ ap₂ (kept_after p) stands.keeps line_kept ∙ next_kept p alike t.kept (t.line ++ come);
-          line = ap (λ (n : ℕ). take n buf) begins.line;
-        });
-        text = rw ended (answer ∙ ap₂ (answer_to p) stands.keeps line_kept ∙ answer_kept p alike t.kept (t.line ++ come));
-        moves = record {
-          behind = (λ some. begins.bytes got ∙ step.moves.behind some);
-          over = (λ e. step.moves.over (sym begins.over ∙ e));
-          ended = (λ none. begins.over ∙ step.moves.ended none ∙ ap (λ (x : List ℕ). eqb (length x) 0) (sym (begins.bytes got)));
-        };
-      }
+    answers_from : (k' : Kept) (next : Held) (text l : List ℕ) → is_whole s ≡ true
+        → l ≡ moved.line
+        → k' ≡ kept_after p k l
+        → text ≡ answer_to p k l
+        → next.ahead ≡ moved.ahead
+        → next.line ≡ []
+        → Turns p t i.ahead s k' next text
+    answers_from k' next text l whole here left answer same none =
+        let ended : (has_newline i.ahead || is_over s) ≡ true = sym step.whole ∙ whole in
+        record {
+          stands = rw ended (record {
+            keeps = left ∙ ap₂ (kept_after p) stands.keeps (here ∙ line_kept) ∙ next_kept p alike t.kept (t.line ++ come);
+            line = none;
+          });
+          text = rw ended (answer ∙ ap₂ (answer_to p) stands.keeps (here ∙ line_kept) ∙ answer_kept p alike t.kept (t.line ++ come));
+          moves = record {
+            behind = (λ some. same ∙ step.moves.behind some);
+            over = step.moves.over;
+            ended = (λ z. step.moves.ended z ∙ ap (λ (x : List ℕ). eqb (length x) 0) (sym same));
+          };
+        }
 
-  pub turn_waits : (out : List ℕ) → moved.whole ≡ false → Turns p t (ahead input chunk) k moved 0 buf got out
-  turn_waits out whole =
-      let open_yet : (has_newline (ahead input chunk) || moved.over) ≡ false = sym step.whole ∙ whole in
-      record {
-        stands = rw open_yet (record { keeps = stands.keeps; line = line_kept });
-        text = rw open_yet;
-        moves = step.moves;
-      }
+    waits_from : (text : List ℕ) → is_whole s ≡ false → text ≡ [] → Turns p t i.ahead s k moved text
+    waits_from text whole none =
+        let open_yet : (has_newline i.ahead || is_over s) ≡ false = sym step.whole ∙ whole in
+        record {
+          stands = rw open_yet (record { keeps = stands.keeps; line = line_kept });
+          text = rw open_yet none;
+          moves = step.moves;
+        }
+
+  pub turn_answers : (k' : Kept) (next : Held) (text l : List ℕ) → is_whole s ≡ true
+      → l ≡ moved.line
+      → k' ≡ kept_after p k l
+      → text ≡ answer_to p k l
+      → next.ahead ≡ moved.ahead
+      → next.line ≡ []
+      → Goes p k i s k' next text
+  turn_answers k' next text l whole here left answer same none =
+      record { on = (λ t stands. answers_from t stands k' next text l whole here left answer same none) }
+
+  pub turn_waits : (text : List ℕ) → is_whole s ≡ false → text ≡ [] → Goes p k i s k moved text
+  turn_waits text whole none = record { on = (λ t stands. waits_from t stands text whole none) }
+
+-- a step that doesn't leave the line open is its end
+pub whole_else : (s : Step) → (s ≡ step.Part → ⊥) → is_whole s ≡ true
+whole_else step.Part h = absurd (h refl)
+whole_else step.Line h = refl
+whole_else step.End h = refl
+
+pub open_part : (s : Step) → s ≡ step.Part → is_whole s ≡ false
+open_part s e = rw e
+
+pub over_end : (s : Step) → s ≡ step.End → is_over s ≡ true
+over_end s e = rw e
+
+pub over_else : (s : Step) → (s ≡ step.End → ⊥) → is_over s ≡ false
+over_else step.Part h = refl
+over_else step.Line h = refl
+over_else step.End h = absurd (h refl)
 
 -- ---- a whole run
 
@@ -119,65 +153,72 @@ module _ {Kept : Type 0} (p : Program Kept) where
   typed_more t [] xs = refl
   typed_more t (b ∷ a) xs = typed_more (cond (eqb b 10) (came p t [] true) (came p t (b ∷ []) false)) a xs
 
-  pub reached_start : (k : Kept) (i : Input) (buf chunk : List ℕ) → k ≡ p.opening → (i.at ≡ 0) × (i.end ≡ 0) × (i.len ≡ 0) → Reached p k i buf chunk
-  unfolding slice
-  reached_start k i buf chunk opened (at, end, len) =
+  pub reached_start : (k : Kept) (i : Held) → k ≡ p.opening → (i.ahead ≡ []) × (i.line ≡ []) → Reached p 0 k i
+  unfolding typed
+  reached_start k i opened (ahead, line) =
       record {
         all = [];
         typing = start p;
-        stands = record { keeps = opened; line = ap (λ (n : ℕ). take n buf) len };
-        same = ap₂ (λ (f e : ℕ). typed p (start p) (drop f (take e chunk))) at end;
+        stands = record { keeps = opened; line = line };
+        same = ap (typed p (start p)) ahead;
+        few = omega (arith, ap length ahead);
       }
 
-  module _ (k k' : Kept) (i i' : Input) (said : ℕ) (buf buf' chunk chunk' out : List ℕ) (reached : Reached p k i buf chunk)
-      (goes : Goes p k i buf chunk k' i' said buf' chunk' out) where
+  module _ (turns : ℕ) (k k' : Kept) (i i' : Held) (s : Step) (text : List ℕ) (reached : Reached p turns k i) (goes : Goes p k i s k' i' text) where
     abbrev was : List ℕ
-    was = ahead i chunk
+    was = i.ahead
 
     abbrev here : Typing Kept
     here = reached.typing
 
-    turns : Turns p here was k' i' said buf' chunk' out
-    turns = goes.on here reached.stands
+    turned : Turns p here was s k' i' text
+    turned = goes.on here reached.stands
 
-    pub reached_next : i'.over ≡ false → Reached p k' i' buf' chunk'
+    -- what is behind a line is less than all of it
+    less : (length was ≡ 0 → ⊥) → length (behind_line was) + 1 ≤ length was
+    less some = omega (arith, length-drop (index_of 10 was + 1) was, some)
+
+    pub reached_next : is_over s ≡ false → Reached p (turns + 1) k' i'
     unfolding index_of typed
     reached_next going =
         split (eqb (length was) 0)
         (λ e. let none : was ≡ [] = none_there was (eqb-true (length was) 0 e) in
-        let same : came p here (first_line was) (has_newline was || i'.over) ≡ typed p (start p) reached.all =
+        let same : came p here (first_line was) (has_newline was || is_over s) ≡ typed p (start p) reached.all =
         ap₂ (λ (x : List ℕ) (o : Bool). came p here (first_line x) (has_newline x || o)) none going
         ∙ nothing_came here
         ∙ ap (typed p here) (sym none)
         ∙ reached.same in
+        let got : (length i'.ahead ≡ 0 → ⊥) = eqb-false (length i'.ahead) 0 (sym (turned.moves.ended (eqb-true (length was) 0 e)) ∙ going) in
         record {
-          all = reached.all ++ ahead i' chunk';
-          typing = came p here (first_line was) (has_newline was || i'.over);
-          stands = turns.stands;
-          same = ap (λ (u : Typing Kept). typed p u (ahead i' chunk')) same ∙ sym (typed_more (start p) reached.all (ahead i' chunk'));
+          all = reached.all ++ i'.ahead;
+          typing = came p here (first_line was) (has_newline was || is_over s);
+          stands = turned.stands;
+          same = ap (λ (u : Typing Kept). typed p u i'.ahead) same ∙ sym (typed_more (start p) reached.all i'.ahead);
+          few = omega (arith, reached.few, length-append reached.all i'.ahead, got);
         })
-        (λ e. let behind : ahead i' chunk' ≡ behind_line was = turns.moves.behind (eqb-false (length was) 0 e) in
-        let ended : (has_newline was || i'.over) ≡ has_newline was =
+        (λ e. let behind : i'.ahead ≡ behind_line was = turned.moves.behind (eqb-false (length was) 0 e) in
+        let ended : (has_newline was || is_over s) ≡ has_newline was =
         ap (λ (o : Bool). has_newline was || o) going ∙ or-false (has_newline was) in
         record {
           all = reached.all;
-          typing = came p here (first_line was) (has_newline was || i'.over);
-          stands = turns.stands;
+          typing = came p here (first_line was) (has_newline was || is_over s);
+          stands = turned.stands;
           same =
               ap₂ (λ (o : Bool) (x : List ℕ). typed p (came p here (first_line was) o) x) ended behind
               ∙ sym (typed_line here was)
               ∙ reached.same;
+          few = omega (arith, reached.few, less (eqb-false (length was) 0 e), ap length behind);
         })
 
-    pub reached_end : i'.over ≡ true → AtEnd p k'
+    pub reached_end : is_over s ≡ true → AtEnd p k'
     unfolding index_of typed kept_at_end
     reached_end over =
-        let none : was ≡ [] = none_there was (turns.moves.over over) in
+        let none : was ≡ [] = none_there was (turned.moves.over over) in
         let same : here ≡ typed p (start p) reached.all = ap (typed p here) (sym none) ∙ reached.same in
         record {
           all = reached.all;
           kept =
-              turns.stands.keeps
+              turned.stands.keeps
               ∙ ap₂ (λ (x : List ℕ) (o : Bool). (came p here (first_line x) (has_newline x || o)).kept) none over
               ∙ ap (λ (u : Typing Kept). (came p u [] true).kept) same;
         }

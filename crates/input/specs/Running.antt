@@ -1,8 +1,10 @@
 -- A program over its whole input, line by line. Assumes nothing.
-use Rattle.std.specs.Prelude.{ℕ, ◌<◌, ◌≡◌, Bool, true, false, cond, ◌||◌, List, [], ◌∷◌, ◌++◌, eqb, length, take}
+use Rattle.std.specs.Prelude.{ℕ, ◌+◌, ◌*◌, ◌<◌, ◌≤◌, ◌≡◌, Bool, true, false, cond, ◌||◌, List, [], ◌∷◌, ◌++◌, eqb, length}
 use Rattle.input.specs.Lines.{Program, answer_to, kept_after, first_line, has_newline}
-use Rattle.input.specs.Reading.{longest, kept, ahead, Moves}
-use Rattle.input.specs.declared.Input.{Input}
+use Rattle.input.specs.Reading.{longest, kept, Held, is_over, Moves}
+use Rattle.input.specs.declared.Step.{Step}
+use Rattle.input.specs.declared.Ending.{Ending}
+use Rattle.input.specs.declared.Ending.TheVariants as ending
 
 -- ---- the whole input
 
@@ -37,32 +39,38 @@ pub record LongAlike {Kept : Type 0} (p : Program Kept) : Type 0 where
   pub answer : (k : Kept) (l l' : List ℕ) → longest < length l → longest < length l' → p.answer k l ≡ p.answer k l'
   pub next : (k : Kept) (l l' : List ℕ) → longest < length l → longest < length l' → p.next k l ≡ p.next k l'
 
--- The program stands at t: k is what it keeps, buf the line's buffer.
-pub record Stands {Kept : Type 0} (t : Typing Kept) (k : Kept) (i : Input) (buf : List ℕ) : Type 0 where
+-- The program stands at t: k is what it keeps, and i its input.
+pub record Stands {Kept : Type 0} (t : Typing Kept) (k : Kept) (i : Held) : Type 0 where
   pub keeps : k ≡ t.kept
-  pub line : take i.len buf ≡ kept t.line
+  pub line : i.line ≡ kept t.line
 
--- One turn, from t with a ahead: the line ends with a newline, or with the input; the first `said` bytes of out are said.
-pub record Turns {Kept : Type 0} (p : Program Kept) (t : Typing Kept) (a : List ℕ) (k : Kept) (i : Input) (said : ℕ) (buf chunk out : List ℕ) : Type 0 where
-  pub stands : Stands (came p t (first_line a) (has_newline a || i.over)) k i buf
-  pub text : take said out ≡ told p t (first_line a) (has_newline a || i.over)
-  pub moves : Moves a i chunk
+-- One turn, from t with a ahead: the line ends with a newline, or with the input; and what is said.
+pub record Turns {Kept : Type 0} (p : Program Kept) (t : Typing Kept) (a : List ℕ) (s : Step) (k : Kept) (i : Held) (said : List ℕ) : Type 0 where
+  pub stands : Stands (came p t (first_line a) (has_newline a || is_over s)) k i
+  pub text : said ≡ told p t (first_line a) (has_newline a || is_over s)
+  pub moves : Moves a s i
 
--- One turn, wherever the program stands: k, i, buf and chunk before it, k', i', buf', chunk' and out behind it.
-pub record Goes {Kept : Type 0} (p : Program Kept) (k : Kept) (i : Input) (buf chunk : List ℕ) (k' : Kept) (i' : Input) (said : ℕ) (buf' chunk' out : List ℕ) : Type 0 where
-  pub on : (t : Typing Kept) → Stands t k i buf → Turns p t (ahead i chunk) k' i' said buf' chunk' out
+-- One turn, wherever the program stands: k and i before it, k', i' and what is said behind it.
+pub record Goes {Kept : Type 0} (p : Program Kept) (k : Kept) (i : Held) (s : Step) (k' : Kept) (i' : Held) (said : List ℕ) : Type 0 where
+  pub on : (t : Typing Kept) → Stands t k i → Turns p t i.ahead s k' i' said
 
 -- ---- a whole run
 
--- There is an input behind which the program stands, but for what is ahead. (No contract says which bytes a read gives, so that none can
--- name it.)
-pub record Reached {Kept : Type 0} (p : Program Kept) (k : Kept) (i : Input) (buf chunk : List ℕ) : Type 0 where
+-- There is an input behind which the program stands, but for what is ahead, after so many turns: no two turns pass without a byte of it. (No
+-- contract says which bytes a read gives, so that none can name it.)
+pub record Reached {Kept : Type 0} (p : Program Kept) (turns : ℕ) (k : Kept) (i : Held) : Type 0 where
   pub all : List ℕ
   pub typing : Typing Kept
-  pub stands : Stands typing k i buf
-  pub same : typed p typing (ahead i chunk) ≡ typed p (start p) all
+  pub stands : Stands typing k i
+  pub same : typed p typing i.ahead ≡ typed p (start p) all
+  pub few : turns + length i.ahead ≤ 2 * length all
 
 -- It stands behind the end of an input.
 pub record AtEnd {Kept : Type 0} (p : Program Kept) (k : Kept) : Type 0 where
   pub all : List ℕ
   pub kept : k ≡ kept_at_end p all
+
+-- Where the input ended, the program stands behind the end of an input; where its turns were used up, it has made so many.
+abbrev pub Ends : {Kept : Type 0} → Program Kept → Ending → Kept → Type 0
+Ends p ending.Over k = AtEnd p k
+Ends p ending.Worn k = (i : Held) × Reached p 18446744073709551615 k i

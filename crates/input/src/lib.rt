@@ -1,162 +1,224 @@
-// The input of a program, line by line, from any reader. What was read last stands in a chunk, and the line that is being gathered in a line
-// buffer. A line that fills the buffer is too long for a command, and what is behind that is dropped.
+// The input of a program, line by line, from any reader, and the run of a program over it. What was read last stands in a chunk, and the line
+// that is being gathered in a line buffer. A line that fills the buffer is too long for a command, and what is behind that is dropped.
 #![tactic(auto)]
 
-ghost use Rattle.std.specs.Prelude.{◌≡◌, ◌++◌, ◌-◌, ◌<◌, ◌≤◌, length, take, drop};
-ghost use Rattle.input.specs.Lines.{unended, is_skipped};
-ghost use Rattle.input.specs.Reading.{Reads, Refills, Begins, Advances, ahead as Reading·ahead};
+ghost use Rattle.std.specs.Prelude.{◌≡◌, ◌++◌, ◌≤◌, length, [], IfOk};
+ghost use Rattle.input.specs.Lines.{Program as Meaning, unended, is_skipped, answer_to, kept_after};
+ghost use Rattle.input.specs.Reading.{line_room, kept, Advances};
+ghost use Rattle.input.specs.Running.{LongAlike, Goes, Ends};
 
+use arrayvec::ArrayVec;
 use basics::find;
-use laying::put;
-use std::io::Read;
+use std::io::{self, Read, Write};
+use std::marker::Model;
 
 // Two more than the longest line of any program has: the workshop's, of 18,597 characters.
-pub const ROOM: usize = 18599;
+const ROOM: usize = 18599;
 
-pub type Line = [u8; ROOM];
+type Line = ArrayVec<u8, ROOM>;
 
-pub type Chunk = [u8; 4096];
-
-#[derive(Clone, Copy)]
+#[derive(Drop)]
 pub struct Input {
+    chunk: [u8; 4096],
     // the bytes of the chunk from `at` to `end` are still to be looked at
-    pub at: usize,
-    pub end: usize,
-    // so many bytes of the line are there
-    pub len: usize,
-    // the line is whole: its newline, or the end of the input, has come
-    pub whole: bool,
-    // the input has ended
-    pub over: bool,
+    at: usize,
+    end: usize,
+    // what there is of the line
+    line: Line,
 }
 
-// Puts the bytes of the chunk from `from` to `to` behind the first `len` of the line, as many as it has room for.
-fn append(line: &mut [u8], len: usize, chunk: &[u8], from: usize, to: usize) -> usize
-    requires { (len ≤ length line.old) × (from ≤ to) × (to ≤ length chunk.now) }
-    ensures upper_bound { result ≤ length line.old }
-    ensures line_after { take result line.new ≡ take (length line.old) (take len line.old ++ take (to - from) (drop from chunk.now)) }
-{
-    let room = line.len() - len;
-    if to - from <= room {
-        return put(line, len, &chunk[from..to]);
-    }
-    let cut = from + room;
-    put(line, len, &chunk[from..cut])
+impl Model for Input {
+    ghost use Rattle.std.specs.Prelude.{◌≤◌, length};
+    ghost use Rattle.basics.specs.Runs.{slice};
+    ghost use Rattle.input.specs.Reading.{line_room, Held};
+
+    ghost Value = { Held };
+
+    ghost view = { λ i. record { ahead = slice i.at i.end i.chunk; line = i.line.items } };
+
+    ghost invariant = { λ i. (i.at ≤ i.end) × (i.end ≤ 4096) × (length i.line.items ≤ line_room) };
 }
 
-// Reads once, and answers how many bytes of the chunk that gave: none at the end of the input, or where the read fails.
-fn read_some<R: Read>(reader: &mut R, chunk: &mut Chunk) -> usize
-    ensures { (result ≤ 4096) × (result ≤ length chunk.new) }
+// What a step of the input came to.
+#[derive(Clone, Copy)]
+pub enum Step {
+    // the line goes on
+    Part,
+    // its newline has come
+    Line,
+    // the input has ended, and the line with it
+    End,
+}
+
+// Puts bytes behind the line, as many as it has room for.
+fn append(line: &mut Line, bytes: &[u8])
+    ensures bound { length line.new.items ≤ line_room }
+    ensures items { line.new.items ≡ kept (line.old.items ++ bytes.now) }
 {
-    match reader.read(chunk) {
-        Ok(n) => n,
-        Err(_) => 0,
-    }
+    let count = line.remaining_capacity().min(bytes.len());
+    let _ = line.try_extend_from_slice(&bytes[..count]);
 }
 
 impl Input {
+    #[tactic(auto, unfolding(basics::specs::Runs::slice))]
     pub fn new() -> Self
-        ensures reads { Reads result }
-        ensures at_value { (result.at ≡ 0) × (result.end ≡ 0) × (result.len ≡ 0) }
+        ensures { (result.ahead ≡ []) × (result.line ≡ []) }
     {
         Self {
+            chunk: [0; 4096],
             at: 0,
             end: 0,
-            len: 0,
-            whole: false,
-            over: false,
+            line: Line::new(),
         }
+    }
+
+    // What there is of the line.
+    pub fn line(&self) -> &[u8]
+        ensures { result.now ≡ self.now.line }
+    {
+        self.line.as_slice()
     }
 
     // The line was answered: the next one begins.
-    pub fn answered(mut self) -> Self
-        requires { Reads self }
-        ensures { Begins self result }
+    pub fn answered(&mut self)
+        ensures { (self.new.ahead ≡ self.old.ahead) × (self.new.line ≡ []) }
     {
-        self.len = 0;
-        self.whole = false;
-        self
+        self.line.clear();
     }
 
     // One step: the rest of the chunk up to a newline, or, where nothing is left of it, one read.
-    pub fn advance<R: Read>(self, reader: &mut R, line: &mut Line, chunk: &mut Chunk) -> Self
-        requires { Reads self }
-        ensures { Advances (take self.len line.old) (Reading·ahead self chunk.old) result line.new chunk.new }
+    pub fn advance<R: Read>(&mut self, reader: &mut R) -> Step
+        ensures { Advances self.old result self.new }
     {
         if self.at < self.end {
-            return self.gather(line, chunk);
+            return self.gather();
         }
-        let n = read_some(reader, chunk);
-        self.refilled(n)
+        self.refill(reader)
     }
 
-    // A read gave n bytes. At the end of the input the line counts as whole.
-    fn refilled(self, n: usize) -> Self
-        requires reads { Reads self }
-        requires n_bound { n ≤ 4096 }
-        ensures { Refills self n result }
+    // Reads once: nothing comes at the end of the input, or where the read fails. At the end of the input the line counts as whole.
+    fn refill<R: Read>(&mut self, reader: &mut R) -> Step
+        requires { self.old.ahead ≡ [] }
+        ensures { Advances self.old result self.new }
     {
-        let ended = n == 0;
-        Self {
-            at: 0,
-            end: n,
-            len: self.len,
-            whole: ended,
-            over: ended,
+        let count = reader.read(&mut self.chunk).unwrap_or(0);
+        self.at = 0;
+        self.end = count;
+        if self.at == self.end {
+            return Step::End;
         }
+        Step::Part
     }
 
     // Moves bytes of the chunk to the line, up to a newline, which is dropped, or the chunk's end.
-    fn gather(self, line: &mut Line, chunk: &Chunk) -> Self
-        requires reads { Reads self }
-        requires at_lt_end { self.at < self.end }
-        ensures { Advances (take self.len line.old) (Reading·ahead self chunk.now) result line.new chunk.now }
+    fn gather(&mut self) -> Step
+        requires { self.old.ahead ≡ [] → ⊥ }
+        ensures { Advances self.old result self.new }
     {
-        let at = self.at;
-        let end = self.end;
-        let stop = find(chunk, at, end, b'\n');
-        let len = append(line, self.len, chunk, at, stop);
-        if stop < end {
-            return Self {
-                at: stop + 1,
-                end,
-                len,
-                whole: true,
-                over: false,
-            };
+        let chunk: &[u8] = &self.chunk;
+        let stop = find(chunk, self.at, self.end, b'\n');
+        append(&mut self.line, &chunk[self.at..stop]);
+        if stop < self.end {
+            self.at = stop + 1;
+            return Step::Line;
         }
-        Self {
-            at: end,
-            end,
-            len,
-            whole: false,
-            over: false,
-        }
+        self.at = self.end;
+        Step::Part
     }
 }
 
-// The length of the line that the first `len` bytes of `line` are, without a carriage return at its end.
-pub fn unended(line: &[u8], len: usize) -> usize
-    requires { len ≤ length line.now }
-    ensures { (result ≤ len) × (take result line.now ≡ unended (take len line.now)) }
+// A line without a carriage return at its end.
+#[tactic(auto, unfolding(crate::specs::Lines::unended))]
+pub fn unended(line: &[u8]) -> &[u8]
+    ensures { result.now ≡ unended line.now }
 {
-    if len == 0 {
-        return 0;
+    match line {
+        [front @ .., b'\r'] => front,
+        _ => line,
     }
-    let last = len - 1;
-    if line[last] == b'\r' {
-        return last;
-    }
-    len
 }
 
-// Whether the line that the first `len` bytes of `line` are is answered by nothing: an empty line, or a comment.
-pub fn is_skipped(line: &[u8], len: usize) -> bool
-    requires { len ≤ length line.now }
-    ensures { result ≡ is_skipped (take len line.now) }
+// Whether a line is answered by nothing: an empty line, or a comment.
+#[tactic(auto, unfolding(crate::specs::Lines::is_skipped))]
+pub fn is_skipped(line: &[u8]) -> bool
+    ensures { result ≡ is_skipped line.now }
 {
-    if len == 0 {
-        return true;
+    line.is_empty() || line[0] == b'#'
+}
+
+// A program that answers lines, each by at most `OUT` bytes. What it keeps from line to line is its value.
+pub trait Program<const OUT: usize> {
+    ghost meaning: { Meaning Self };
+
+    // Answers a line that is neither empty nor a comment, and keeps what it leaves.
+    fn respond(&mut self, line: &[u8], out: &mut ArrayVec<u8, OUT>)
+        ensures keeps { self.new ≡ meaning.next self.old line.now }
+        ensures answers { out.new.items ≡ meaning.answer self.old line.now };
+
+    ghost alike: { LongAlike meaning };
+}
+
+// Answers a line as it was read.
+#[tactic(auto, unfolding(crate::specs::Lines::kept_after, crate::specs::Lines::answer_to))]
+fn reply<const OUT: usize, P: Program<OUT>>(
+    program: &mut P,
+    line: &[u8],
+    out: &mut ArrayVec<u8, OUT>,
+)
+    ensures keeps { program.new ≡ kept_after P.meaning program.old line.now }
+    ensures answers { out.new.items ≡ answer_to P.meaning program.old line.now }
+{
+    let text = unended(line);
+    if is_skipped(text) {
+        return out.clear();
     }
-    line[0] == b'#'
+    program.respond(text, out);
+}
+
+// One turn: goes on with the input, and answers a line where it is whole now.
+fn turn<const OUT: usize, P: Program<OUT>, R: Read>(
+    program: &mut P,
+    input: &mut Input,
+    reader: &mut R,
+    out: &mut ArrayVec<u8, OUT>,
+) -> Step
+    ensures { Goes P.meaning program.old input.old result program.new input.new out.new.items }
+{
+    let step = input.advance(reader);
+    if let Step::Part = step {
+        out.clear();
+        return step;
+    }
+    reply(program, input.line(), out);
+    input.answered();
+    step
+}
+
+// How a run ended: with the input; because its turns were used up.
+#[derive(Clone, Copy)]
+pub enum Ending {
+    Over,
+    Worn,
+}
+
+// Runs a program to the end of the input, and writes what each turn says. A proved loop has to end, and nothing says that the input does: so the
+// turns are counted, up to a number that no run uses up.
+pub fn run<const OUT: usize, P: Program<OUT>, R: Read, W: Write>(
+    program: &mut P,
+    reader: &mut R,
+    writer: &mut W,
+    out: &mut ArrayVec<u8, OUT>,
+) -> io::Result<Ending>
+    requires { program.old ≡ P.meaning.opening }
+    ensures { IfOk result (λ ending. Ends P.meaning ending program.new) }
+{
+    let mut input = Input::new();
+    for turns in 0..u64::MAX {
+        let step = turn(program, &mut input, reader, out);
+        writer.write_all(out.as_slice())?;
+        if let Step::End = step {
+            return Ok(Ending::Over);
+        }
+    }
+    Ok(Ending::Worn)
 }

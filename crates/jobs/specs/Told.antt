@@ -56,7 +56,3 @@ AnswerFits answer.Help = Unit
 AnswerFits answer.NoSuchCommand = Unit
 AnswerFits answer.NotSoWritten = Unit
 AnswerFits answer.TooLong = Unit
-
--- room for the longest line
-abbrev pub out_room : ℕ
-out_room = 2206

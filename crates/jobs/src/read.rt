@@ -1,10 +1,12 @@
 // Reading a line: the command that its first word names, and its arguments.
-ghost use Rattle.std.specs.Prelude.{◌≡◌, ◌≤◌, length, take};
-ghost use Rattle.words.specs.Args.{kinds_of, room_for, said_by};
-ghost use Rattle.jobs.specs.Said.{row_of, verb_of, said_of, sent_room, AskedFits};
+ghost use Rattle.std.specs.Prelude.{◌≡◌, IfOk};
+ghost use Rattle.words.specs.Args.{said_by};
+ghost use Rattle.words.specs.Rows.{given_of};
+ghost use Rattle.jobs.specs.Said.{verb_of, said_of, AskedFits};
 
-use words::args::{Given, Kind, Shape, args_of};
-use words::word::{packed, word_end};
+use words::args::{Kind, Refusal};
+use words::rows::{Asked, Row};
+use words::word::Numeral;
 
 // Room for the bytes of a line's arguments, one behind the other.
 pub type Sent = [u8; 1100];
@@ -19,33 +21,13 @@ pub enum Verb {
     Help,
 }
 
-// A command and its arguments.
-#[derive(Clone, Copy)]
-pub struct Row(pub Verb, pub Shape);
-
-// What a line asks for: a command, and its arguments or why it has none. The bytes stand in a buffer beside it.
-#[derive(Clone, Copy)]
-pub struct Asked {
-    pub verb: Verb,
-    pub given: Given,
-}
-
-// The words as numbers: the first letter is the lowest byte.
-const SCREEN: u64 = 0x1_6e_65_65_72_63_73;
-
-const READING: u64 = 0x1_67_6e_69_64_61_65_72;
-
-const HELP: u64 = 0x1_70_6c_65_68;
-
 // The arguments that the lines have.
-const NONE: Kind = Kind::Nothing;
-
-const SECONDS: Kind = Kind::Number {
+const SECONDS: Kind = Kind::Number(Numeral {
     base: 10,
     least: 1,
     digits: 10,
     most: 4294967295,
-};
+});
 
 const WATTS: Kind = SECONDS;
 
@@ -53,38 +35,33 @@ const IMAGE: Kind = Kind::Dashed(1100);
 
 const AREA: Kind = IMAGE;
 
-// The row of a word. Where it is no command the shape says so, and the verb means nothing.
-fn row_of(word: &[u8]) -> Row
-    ensures result_bound { room_for (kinds_of result.1) ≤ sent_room }
-    ensures value { result ≡ row_of word.now }
-{
-    let k = packed(word);
-    match k {
-        SCREEN => Row(Verb::Screen, Shape(2, SECONDS, IMAGE, NONE)),
-        READING => Row(Verb::Reading, Shape(3, SECONDS, WATTS, AREA)),
-        HELP => Row(Verb::Help, Shape(0, NONE, NONE, NONE)),
-        _ => Row(Verb::Help, Shape(4, NONE, NONE, NONE)),
-    }
-}
+// The commands.
+static COMMANDS: [Row<Verb>; 3] = [
+    Row {
+        word: b"screen",
+        verb: Verb::Screen,
+        needed: 2,
+        kinds: &[SECONDS, IMAGE],
+    },
+    Row {
+        word: b"reading",
+        verb: Verb::Reading,
+        needed: 3,
+        kinds: &[SECONDS, WATTS, AREA],
+    },
+    Row {
+        word: b"help",
+        verb: Verb::Help,
+        needed: 0,
+        kinds: &[],
+    },
+];
 
-// What the line that the first `len` bytes of `line` are asks for.
-pub fn asked_of(line: &[u8], len: usize, bytes: &mut Sent) -> Asked
-    requires { len ≤ length line.now }
-    ensures asked_fits { AskedFits result }
-    ensures verb_value { (result.verb ≡ verb_of (take len line.now)) × (said_by result.given bytes.new ≡ said_of (take len line.now)) }
+// What a line asks for.
+pub fn asked_of(text: &[u8], bytes: &mut Sent) -> Result<Asked<Verb>, Refusal>
+    ensures asked_fits { IfOk result (λ a. AskedFits a) }
+    ensures verb { IfOk result (λ a. a.verb ≡ verb_of text.now) }
+    ensures said { said_by (given_of result) bytes.new ≡ said_of text.now }
 {
-    asked_in(&line[0..len], bytes)
-}
-
-// What a whole line asks for.
-fn asked_in(text: &[u8], bytes: &mut Sent) -> Asked
-    ensures asked_fits { AskedFits result }
-    ensures verb_value { (result.verb ≡ verb_of text.now) × (said_by result.given bytes.new ≡ said_of text.now) }
-{
-    let end = word_end(text, 0);
-    let row = row_of(&text[0..end]);
-    let verb = row.0;
-    let shape = row.1;
-    let given = args_of(shape, text, LONGEST, bytes);
-    Asked { verb, given }
+    words::rows::asked_of(&COMMANDS, LONGEST, text, bytes)
 }

@@ -1,150 +1,117 @@
-// Laying the line that answers a line into a buffer, part by part: words, numbers, bytes. All that put something at a place answer the place
-// behind it.
+// Laying the line that answers a line: its parts, which are words, numbers and bytes, one behind the other, and the line's end. Not by `write!`:
+// std says what that writes where it succeeds, and not that it does, and a line is always laid.
 #![tactic(auto)]
 
-ghost use Rattle.std.specs.Prelude.{◌≡◌, ◌∷◌, [], ◌+◌, ◌*◌, ◌/◌, ◌%◌, ◌≤◌, ◌<◌, length, take};
-ghost use Rattle.laying.specs.Parts.{word as Parts·word, flagged as Parts·flagged, number as Parts·number, four as Parts·four, hex as Parts·hex, tail as Parts·tail, letters_of, Laid, Line};
+ghost use Rattle.std.specs.Prelude.{◌≡◌, [], ◌∷◌, ◌++◌, ◌+◌, ◌*◌, ◌<◌, ◌≤◌, cond, length};
+ghost use Rattle.arrayvec.specs.ArrayVec.{array_vec_len};
+ghost use Rattle.basics.specs.Hex.{hex_of};
+ghost use Rattle.laying.specs.Parts.{decimal, tail_of, four_of, part_laid, parts_laid, room_of, room_for, Laid, Line};
 
-use basics::{copy, high_char, low_char};
+use arrayvec::ArrayVec;
+use basics::{high_char, low_char};
+use itoa::Buffer;
 
-// A word of at most seven letters: how many it has, and the letters.
+// A part of a line: fixed words; fixed words where a flag is set, or nothing; a number in decimal; a number as four hex digits; bytes in hex;
+// bytes in hex behind a space, or nothing where there are none.
 #[derive(Clone, Copy)]
-pub struct Letters(pub usize, pub [u8; 7]);
-
-// The first `count` bytes of a text.
-pub fn put_front(out: &mut [u8], at: usize, text: &[u8], count: usize) -> usize
-    requires count_in_bounds { count ≤ length text.now }
-    requires count_in_bounds_2 { at + count ≤ length out.old }
-    ensures value { result ≡ at + count }
-    ensures laid { Laid (Parts·word (take count text.now)) at result out.old out.new }
-{
-    let end = at + count;
-    copy(&text[0..count], &mut out[at..end]);
-    end
+pub enum Part<'a> {
+    Words(&'a [u8]),
+    Flagged(bool, &'a [u8]),
+    Number(usize),
+    Four(u16),
+    Hex(&'a [u8]),
+    Tail(&'a [u8]),
 }
 
-pub fn put(out: &mut [u8], at: usize, text: &[u8]) -> usize
-    requires { at + length text.now ≤ length out.old }
-    ensures value { result ≡ at + length text.now }
-    ensures laid { Laid (Parts·word text.now) at result out.old out.new }
-{
-    put_front(out, at, text, text.len())
-}
-
-pub fn put_letters(out: &mut [u8], at: usize, word: Letters) -> usize
-    requires word_bound { word.0 ≤ 7 }
-    requires at_in_bounds { at + 7 ≤ length out.old }
-    ensures upper_bound { result ≤ at + 7 }
-    ensures laid { Laid (Parts·word (letters_of word)) at result out.old out.new }
-{
-    let letters = word.1;
-    put_seven(out, at, &letters, word.0)
-}
-
-// The array by its own type: its length is then known.
-fn put_seven(out: &mut [u8], at: usize, letters: &[u8; 7], count: usize) -> usize
-    requires count_bound { count ≤ 7 }
-    requires at_in_bounds { at + 7 ≤ length out.old }
-    ensures upper_bound { result ≤ at + 7 }
-    ensures laid { Laid (Parts·word (take count letters.now)) at result out.old out.new }
-{
-    put_front(out, at, letters, count)
-}
-
-// A text where a flag is set, or nothing.
-pub fn put_flagged(out: &mut [u8], at: usize, text: &[u8], flag: bool) -> usize
-    requires { at + length text.now ≤ length out.old }
-    ensures upper_bound { result ≤ at + length text.now }
-    ensures laid { Laid (Parts·flagged flag text.now) at result out.old out.new }
-{
-    if flag {
-        return put(out, at, text);
+impl Part<'_> {
+    // Puts the part behind what `out` has.
+    fn put<const N: usize>(&self, out: &mut ArrayVec<u8, N>)
+        requires { array_vec_len out.old + room_of (part_laid self.now) ≤ N }
+        ensures { Laid (part_laid self.now) out.old.items out.new.items }
+    {
+        match self {
+            Part::Words(words) => put_words(out, words),
+            Part::Flagged(flag, words) => put_flagged(out, *flag, words),
+            Part::Number(n) => put_number(out, *n),
+            Part::Four(n) => put_four(out, *n),
+            Part::Hex(bytes) => put_hex(out, bytes),
+            Part::Tail(bytes) => put_tail(out, bytes),
+        }
     }
-    at
 }
 
-// The first `count` bytes of `bytes`, as pairs of hex digits.
-pub fn put_hex(out: &mut [u8], at: usize, bytes: &[u8], count: usize) -> usize
-    requires count_in_bounds { count ≤ length bytes.now }
-    requires count_in_bounds_2 { at + 2 * count ≤ length out.old }
-    ensures value { result ≡ at + 2 * count }
-    ensures laid { Laid (Parts·hex (take count bytes.now)) at result out.old out.new }
+// Lays the line of these parts: it is then all that `out` has.
+pub fn lay<const N: usize>(out: &mut ArrayVec<u8, N>, parts: &[Part<'_>])
+    requires { room_for (parts_laid parts.now) ≤ N }
+    ensures { Line (parts_laid parts.now) out.new.items }
 {
-    let mut to = at;
-    let mut i = 0;
-    while i < count {
-        let b = bytes[i];
-        out[to] = high_char(b);
-        out[to + 1] = low_char(b);
-        to += 2;
-        i += 1;
+    out.clear();
+    for part in parts {
+        part.put(out);
     }
-    to
+    end(out);
 }
 
-// The same behind a space; nothing where there are none.
-#[tactic(auto, using(crate::proofs::Laying::tail_none))]
-pub fn put_tail(out: &mut [u8], at: usize, bytes: &[u8], count: usize) -> usize
-    requires count_in_bounds { count ≤ length bytes.now }
-    requires count_in_bounds_2 { at + 2 * count + 1 ≤ length out.old }
-    ensures upper_bound { result ≤ at + 2 * count + 1 }
-    ensures laid { Laid (Parts·tail (take count bytes.now)) at result out.old out.new }
+// Ends the line.
+fn end<const N: usize>(out: &mut ArrayVec<u8, N>)
+    requires { array_vec_len out.old < N }
+    ensures { out.new.items ≡ out.old.items ++ 10 ∷ [] }
 {
-    if count == 0 {
-        return at;
+    out.push(b'\n');
+}
+
+fn put_words<const N: usize>(out: &mut ArrayVec<u8, N>, words: &[u8])
+    requires { array_vec_len out.old + length words.now ≤ N }
+    ensures { out.new.items ≡ out.old.items ++ words.now }
+{
+    let _ = out.try_extend_from_slice(words);
+}
+
+fn put_flagged<const N: usize>(out: &mut ArrayVec<u8, N>, flag: bool, words: &[u8])
+    requires { array_vec_len out.old + length words.now ≤ N }
+    ensures { out.new.items ≡ out.old.items ++ cond flag words.now [] }
+{
+    let text = if flag { words } else { b"" };
+    let _ = out.try_extend_from_slice(text);
+}
+
+#[tactic(auto, using(crate::proofs::Laying::decimal_is))]
+fn put_number<const N: usize>(out: &mut ArrayVec<u8, N>, n: usize)
+    requires { array_vec_len out.old + 20 ≤ N }
+    ensures { out.new.items ≡ out.old.items ++ decimal n }
+{
+    let mut buffer = Buffer::new();
+    let digits = buffer.format(n).as_bytes();
+    let _ = out.try_extend_from_slice(digits);
+}
+
+// The high byte first.
+fn put_four<const N: usize>(out: &mut ArrayVec<u8, N>, n: u16)
+    requires { array_vec_len out.old + 4 ≤ N }
+    ensures { out.new.items ≡ out.old.items ++ four_of n }
+{
+    put_hex(out, &n.to_be_bytes());
+}
+
+// Each byte as two hex digits.
+#[tactic(auto, using(crate::proofs::Laying::hex_more))]
+fn put_hex<const N: usize>(out: &mut ArrayVec<u8, N>, bytes: &[u8])
+    requires { array_vec_len out.old + 2 * length bytes.now ≤ N }
+    ensures { out.new.items ≡ out.old.items ++ hex_of bytes.now }
+{
+    for b in bytes {
+        out.push(high_char(*b));
+        out.push(low_char(*b));
     }
-    let a = put(out, at, b" ");
-    put_hex(out, a, bytes, count)
 }
 
-// A number of sixteen bits as four hex digits.
-pub fn put_four(out: &mut [u8], at: usize, n: u16) -> usize
-    requires { at + 4 ≤ length out.old }
-    ensures value { result ≡ at + 4 }
-    ensures laid { Laid (Parts·four n) at result out.old out.new }
+fn put_tail<const N: usize>(out: &mut ArrayVec<u8, N>, bytes: &[u8])
+    requires { array_vec_len out.old + 2 * length bytes.now + 1 ≤ N }
+    ensures { out.new.items ≡ out.old.items ++ tail_of bytes.now }
 {
-    let two = [(n / 256) as u8, (n % 256) as u8];
-    put_hex(out, at, &two, 2)
-}
-
-// A number, in decimal.
-pub fn put_number(out: &mut [u8], at: usize, n: usize) -> usize
-    requires { at + 20 ≤ length out.old }
-    ensures upper_bound { result ≤ at + 20 }
-    ensures laid { Laid (Parts·number n) at result out.old out.new }
-{
-    let mut digits = [0u8; 20];
-    let k = io::decimal(n as u64, &mut digits);
-    put_digits(out, at, &digits, k)
-}
-
-// The array by its own type: its length is then known.
-fn put_digits(out: &mut [u8], at: usize, digits: &[u8; 20], k: usize) -> usize
-    requires k_in_bounds { k ≤ length digits.now }
-    requires at_in_bounds { at + 20 ≤ length out.old }
-    ensures upper_bound { (result ≤ at + 20) × (k ≤ 20) }
-    ensures laid { Laid (Parts·word (take k digits.now)) at result out.old out.new }
-{
-    put_front(out, at, digits, k)
-}
-
-// A line of fixed words.
-pub fn fixed(out: &mut [u8], words: &[u8]) -> usize
-    requires { length words.now + 1 ≤ length out.old }
-    ensures upper_bound { result ≤ length out.old }
-    ensures line { Line (Parts·word words.now ∷ []) result out.new }
-{
-    let a = put(out, 0, words);
-    put(out, a, b"\n")
-}
-
-// A line of a word, which has its space behind it, and a number.
-pub fn numbered(out: &mut [u8], word: &[u8], n: usize) -> usize
-    requires { length word.now + 21 ≤ length out.old }
-    ensures upper_bound { result ≤ length out.old }
-    ensures line { Line (Parts·word word.now ∷ Parts·number n ∷ []) result out.new }
-{
-    let a = put(out, 0, word);
-    let b = put_number(out, a, n);
-    put(out, b, b"\n")
+    if bytes.is_empty() {
+        return;
+    }
+    out.push(b' ');
+    put_hex(out, bytes);
 }

@@ -1,36 +1,35 @@
 -- Laws of what a line says. Assumes nothing.
-use Prim.Native.Nat.{ℕ, ◌+◌, ◌-◌, ◌≤◌}
-use mathlib.Core.Path.{◌≡◌, refl, ap, subst⁻¹, ◌∙◌}
-use mathlib.Core.Bool.{true}
+use Prim.Native.Nat.{ℕ, ◌<◌}
+use mathlib.Core.Path.{◌≡◌}
 use mathlib.Core.List.{List}
-use native.Mathlib.Omega.{arith}
-use lib.ListN.{take, drop}
-use Rattle.words.specs.Pack.{packed_of, readable}
-use Rattle.words.specs.Word.{word_end, first_of}
-use Rattle.words.specs.Args.{Said, said_in, kinds_of, room_for, GivenFits}
+use borrow.Author.Rules.{rules}
+use lib.ListN.{length}
+use Rattle.std.specs.Prelude.{Result, Ok, Err, IfOk}
+use Rattle.words.specs.Word.{first_of}
+use Rattle.words.specs.Args.{long, GivenFits}
+use Rattle.words.specs.Rows.{Command, TableFits, Asks}
 use Rattle.words.specs.declared.args.Given.{Given}
-use Rattle.words.proofs.Whole.{by_first}
-use Rattle.words.proofs.Arguing.{looked_up}
-use Rattle.words.proofs.Rows.{row_at, Others, known_in, unknown_in, each_row, ◌and◌}
-use Rattle.lines.specs.Said.{commands, no_command, row_of, verb_of, said_of, Fits, AskedFits}
-use Rattle.lines.specs.declared.read.Row.{Row}
+use Rattle.words.specs.declared.args.Refusal.{Refusal}
+use Rattle.words.specs.declared.rows.Asked.{Asked}
+use Rattle.words.proofs.Tables.{too_long_lem, Each, asked_verb, asked_allowed, ◌and◌}
+use Rattle.lines.specs.Said.{commands, row_of, verb_of, said_of, Fits, AskedFits}
+use Rattle.lines.specs.declared.read.Verb.{Verb}
+use Rattle.lines.specs.declared.read.Verb.TheVariants as verb
+
+-- a line that is too long is so whatever its command is
+pub said_long : (w : List ℕ) → 16397 < length w → said_of w ≡ long
+said_long w h = too_long_lem 16397 (row_of (first_of w)) w h
 
 -- ---- the table
 
-module _ (w : List ℕ) (k : ℕ) (number : k ≡ packed_of w) (bytes : readable w k ≡ true) where
-  pub row_known : (n : ℕ) (r : Row) → k ≡ n → r ≡ row_at no_command commands n → r ≡ row_of w
-  unfolding row_of commands
-  row_known n r e h = known_in no_command w k number bytes commands refl n r e h
-
-  pub row_unknown : Others no_command Unit k commands → no_command ≡ row_of w
-  unfolding row_of commands
-  row_unknown o = unknown_in no_command w k number bytes commands refl o
+table_fits : TableFits 8192 commands
+unfolding commands
+table_fits = search rules
 
 -- what the arguments of each row may be
-row_fits : (w : List ℕ) (g : Given) → GivenFits (row_of w).1 g → Fits (row_of w).0 g
-unfolding row_of commands
-row_fits =
-    each_row no_command (λ (r : Row). (g : Given) → GivenFits r.1 g → Fits r.0 g) commands (
+rows_fit : Each (λ (c : Command Verb). (g : Given) → GivenFits c.2 g → Fits c.0 g) commands
+unfolding commands
+rows_fit =
     (λ g f. f.end)
     and (λ g f. f.numbers.below 0)
     and (λ g f. tt)
@@ -47,25 +46,17 @@ row_fits =
     and (λ g f. tt)
     and (λ g f. f.numbers.below 0)
     and (λ g f. (f.numbers.below 0, f.numbers.below 1))
-    and (λ g f. tt)
-    )
+    and tt
 
--- ---- a whole line
+-- ---- what was asked for
 
-module _ (w : List ℕ) (end : ℕ) (row : Row) (g : Given) (e : end ≡ 0 + word_end (drop 0 w)) (r : row ≡ row_of (take (end - 0) (drop 0 w))) where
-  row_is : row ≡ row_of (first_of w)
-  row_is = by_first row_of w end row e r
+pub verb_told : (w : List ℕ) (r : Result (Asked Verb) Refusal) → IfOk r (λ a. Asks (row_of (first_of w)) a) → IfOk r (λ a. a.verb ≡ verb_of w)
+verb_told w (Ok a) h = asked_verb verb.Help (row_of (first_of w)) a h
+verb_told w (Err e) h = tt
 
-  pub verb_told : row.0 ≡ verb_of w
-  verb_told = ap (λ (x : Row). x.0) row_is
-
-  pub line_told : (s : Said) → s ≡ said_in 16397 row.1 w → s ≡ said_of w
-  line_told s h = h ∙ ap (λ (x : Row). said_in 16397 x.1 w) row_is
-
-  pub line_fits : room_for (kinds_of row.1) ≤ 8192 → GivenFits row.1 g → AskedFits (record { verb = row.0; given = g })
-  line_fits h f =
-      record {
-        end = omega (arith, f.end);
-        numbers = looked_up row.1 g.count g.numbers f.numbers;
-        verb = subst⁻¹ (λ (x : Row). GivenFits x.1 g → Fits x.0 g) r (row_fits (take (end - 0) (drop 0 w)) g) f;
-      }
+pub fits_told : (w : List ℕ) (r : Result (Asked Verb) Refusal) → IfOk r (λ a. Asks (row_of (first_of w)) a) → IfOk r (λ a. AskedFits a)
+unfolding row_of
+fits_told w (Ok a) h =
+    let f = asked_allowed Fits 8192 commands table_fits rows_fit (first_of w) a h in
+    record { end = f.0; numbers = f.1; verb = f.2 }
+fits_told w (Err e) h = tt

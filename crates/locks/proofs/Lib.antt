@@ -1,4 +1,3 @@
 pub mod Bits
 pub mod Gains
-pub mod Table
 pub mod Lock

@@ -1,10 +1,10 @@
 -- The two kinds of locks, after document 01's "Static locks" and "Dynamic locks", as numbers alone: the static locks are the
 -- sixteen bits of image bytes 10 and 11, the dynamic locks those of bytes 0 and 1 of the lock page, whose byte 2 has the block bits.
 -- n is the number of pages. Assumes nothing.
-use Rattle.std.specs.Prelude.{◌≡◌, ◌⊎◌, Bool, true, false, cond, ◌&&◌, ℕ, ◌-◌, ◌/◌, min, max, eqb, leb, ltb}
+use Rattle.std.specs.Prelude.{◌≡◌, ◌⊎◌, Option, Some, None, Bool, false, cond, ◌&&◌, ℕ, ◌-◌, ◌/◌, min, max, eqb, leb, ltb}
 use Rattle.locks.specs.Bits.{bit_at, is_set, of_bits}
 use Rattle.locks.specs.declared.LockBit.{LockBit}
-use Rattle.locks.specs.declared.LockBit.TheVariants.{Static, Dynamic, Absent}
+use Rattle.locks.specs.declared.LockBit.TheVariants.{Static, Dynamic}
 
 -- the three sizes
 abbrev pub Sized : ℕ → Type 0
@@ -24,28 +24,22 @@ pages_each n = cond (eqb n 45) 2 16
 
 -- "bit 3 locks page 3, bits 4-7 pages 4-7. Byte 11: bits 0-7 lock pages 8-15": static bit p locks page p. Dynamic locks "cover user
 -- pages from 16 up, in order". Page 3 and user pages have a lock bit, and no others.
-unfoldable pub lock_of : ℕ → ℕ → LockBit
-lock_of n p = cond (leb 3 p && ltb p (lock_page n)) (cond (ltb p 16) (Static p) (Dynamic ((p - 16) / pages_each n))) Absent
+unfoldable pub lock_of : ℕ → ℕ → Option LockBit
+lock_of n p = cond (leb 3 p && ltb p (lock_page n)) (cond (ltb p 16) (Some (Static p)) (Some (Dynamic ((p - 16) / pages_each n)))) None
 
-abbrev pub bit_of : LockBit → ℕ
-bit_of (Static i) = i
-bit_of (Dynamic i) = i
-bit_of Absent = 0
+abbrev pub bit_of : Option LockBit → ℕ
+bit_of (Some (Static i)) = i
+bit_of (Some (Dynamic i)) = i
+bit_of None = 0
 
-abbrev pub set_in : ℕ → ℕ → LockBit → Bool
-set_in statics dynamics (Static i) = is_set statics i
-set_in statics dynamics (Dynamic i) = is_set dynamics i
-set_in statics dynamics Absent = false
+abbrev pub set_in : ℕ → ℕ → Option LockBit → Bool
+set_in statics dynamics (Some (Static i)) = is_set statics i
+set_in statics dynamics (Some (Dynamic i)) = is_set dynamics i
+set_in statics dynamics None = false
 
 -- which bit locks page p: its own where that is set, else none, and the page is open
-unfoldable pub locked_by : ℕ → ℕ → ℕ → ℕ → LockBit
-locked_by n statics dynamics p = let lock = lock_of n p in cond (set_in statics dynamics lock) lock Absent
-
--- whether there is one
-abbrev pub is_bit : LockBit → Bool
-is_bit (Static i) = true
-is_bit (Dynamic i) = true
-is_bit Absent = false
+unfoldable pub locked_by : ℕ → ℕ → ℕ → ℕ → Option LockBit
+locked_by n statics dynamics p = let lock = lock_of n p in cond (set_in statics dynamics lock) lock None
 
 -- ---- what a WRITE sets
 

@@ -1,7 +1,7 @@
 -- Needed by the code alone: the rule of its table of all 34 dynamic lock bits, and what the table tells. Rows 0-11 are N=45, rows 12-19
 -- N=135, rows 20-33 N=231. Assumes nothing.
-use Rattle.std.specs.Prelude.{cond, ℕ, ◌+◌, ◌-◌, ◌*◌, ◌≤◌, min, eqb, ltb}
-use Rattle.locks.specs.Locks.{lock_page, pages_each, dynamic_block, clear_at}
+use Rattle.std.specs.Prelude.{List, [], ◌∷◌, ℕ, zero, suc, ◌+◌, ◌-◌, ◌*◌, ◌≤◌, min}
+use Rattle.locks.specs.Locks.{lock_page, lock_bits, pages_each, dynamic_block}
 use Rattle.locks.specs.declared.Row.{Row}
 
 abbrev pub first_page : Row → ℕ
@@ -19,17 +19,14 @@ row_for n i =
     let first = 16 + pages_each n * i in
     (first, min (first + (pages_each n - 1)) (lock_page n - 1), dynamic_block i)
 
-unfoldable pub row_at : ℕ → Row
-row_at k = cond (ltb k 12) (row_for 45 k) (cond (ltb k 20) (row_for 135 (k - 12)) (row_for 231 (k - 20)))
+-- the rows of a size, from lock bit i on so many, and all of them
+abbrev pub rows_from : ℕ → ℕ → ℕ → List Row
+rows_from n i zero = []
+rows_from n i (suc k) = row_for n i ∷ rows_from n (suc i) k
 
--- where the rows of a size begin
-unfoldable pub first_row : ℕ → ℕ
-first_row n = cond (eqb n 45) 0 (cond (eqb n 135) 12 20)
+unfoldable pub rows_for : ℕ → List Row
+rows_for n = rows_from n 0 (lock_bits n)
 
 -- the row has the page
 abbrev pub Covers : Row → ℕ → Type 0
 Covers r p = (first_page r ≤ p) × (p ≤ last_page r)
-
--- lock bit i of the rows from start on may be set: the block bit of its row is clear
-unfoldable pub may_row : ℕ → ℕ → ℕ → ℕ
-may_row start blocks i = clear_at blocks (block_bit (row_at (start + i)))

@@ -1,17 +1,17 @@
 // The two kinds of locks as numbers: which bit locks a page, and which bits a WRITE sets.
+// That n is one of the three sizes stands in the contracts, and not in a type: all crates above count with n, and would open it each time.
 #![tactic(auto)]
 
-ghost use Rattle.std.specs.Prelude.{◌≡◌, ◌+◌, ◌-◌, ◌/◌, ◌%◌, ◌≤◌, ◌<◌};
+ghost use Rattle.std.specs.Prelude.{◌≡◌, ◌-◌, ◌/◌, ◌≤◌, ◌<◌};
 ghost use Rattle.locks.specs.Bits.{is_set, of_bits};
-ghost use Rattle.locks.specs.Locks.{Sized, lock_bits, pages_each, lock_of, bit_of, set_in, locked_by, is_bit, clear_at, may_static, static_gain, may_dynamic, dynamic_gain, may_block, block_gain};
-ghost use Rattle.locks.specs.Table.{row_at, first_row, may_row};
+ghost use Rattle.locks.specs.Locks.{Sized, pages_each, lock_of, bit_of, set_in, locked_by, clear_at, may_static, static_gain, may_dynamic, dynamic_gain, may_block, block_gain};
+ghost use Rattle.locks.specs.Table.{rows_for};
 
-// A lock bit: of the static locks, of the dynamic locks, or none.
-#[derive(Clone, Copy)]
+// A lock bit: of the static locks, or of the dynamic locks.
+#[derive(Clone, Copy, PartialEq, Eq)]
 pub enum LockBit {
     Static(usize),
     Dynamic(usize),
-    Absent,
 }
 
 // First page, last page and block bit of a dynamic lock bit. In four bytes, so that the compiler moves rows by the word.
@@ -57,37 +57,15 @@ const TABLE: [Row; 34] = [
     Row(224, 225, 6),
 ];
 
-fn row_at(k: usize) -> Row
-    requires { k < 34 }
-    ensures { result ≡ row_at k }
-{
-    TABLE[k]
-}
-
-// Where the rows of a size begin, and how many they are. Both are even, so that the two lock bits of a block bit stand in one pair.
-#[derive(Clone, Copy)]
-struct Rows {
-    start: usize,
-    count: usize,
-}
-
-fn rows_of(n: usize) -> Rows
-    ensures start_value { (result.start ≡ first_row n) × (result.count ≡ lock_bits n) × (result.start + result.count ≤ 34) × (result.count ≤ 14) }
-    ensures pairs { (result.start % 2 ≡ 0) × (result.count % 2 ≡ 0) }
+// The rows of a size: one for each of its lock bits, in their order.
+fn rows_of(n: usize) -> &'static [Row]
+    requires { Sized n }
+    ensures { result.now ≡ rows_for n }
 {
     match n {
-        45 => Rows {
-            start: 0,
-            count: 12,
-        },
-        135 => Rows {
-            start: 12,
-            count: 8,
-        },
-        _ => Rows {
-            start: 20,
-            count: 14,
-        },
+        45 => &TABLE[0..12],
+        135 => &TABLE[12..20],
+        _ => &TABLE[20..34],
     }
 }
 
@@ -102,36 +80,29 @@ fn candidate(n: usize, page: usize) -> usize
     }
 }
 
-// The lock bit of a page from 16 up. The row of its candidate decides. No other is looked up: each look copies the table to the stack.
-fn dynamic_lock(n: usize, page: usize) -> LockBit
+// The lock bit of a page from 16 up. The row of its candidate decides.
+fn dynamic_lock(n: usize, page: usize) -> Option<LockBit>
     requires { Sized n × (16 ≤ page) }
     ensures { result ≡ lock_of n page }
 {
-    let rows = rows_of(n);
     let i = candidate(n, page);
-    if rows.count <= i {
-        return LockBit::Absent;
+    let row = *rows_of(n).get(i)?;
+    if usize::from(row.0) <= page && page <= usize::from(row.1) {
+        Some(LockBit::Dynamic(i))
+    } else {
+        None
     }
-    let row = row_at(rows.start + i);
-    let first = row.0 as usize;
-    let last = row.1 as usize;
-    if page < first {
-        return LockBit::Absent;
-    }
-    if last < page {
-        return LockBit::Absent;
-    }
-    LockBit::Dynamic(i)
 }
 
 // The bit that locks a page, at n pages.
-pub fn lock_of(n: usize, page: usize) -> LockBit
+#[tactic(auto, using(crate::proofs::Lock::no_lock, crate::proofs::Lock::static_lock))]
+pub fn lock_of(n: usize, page: usize) -> Option<LockBit>
     requires { Sized n }
     ensures { result ≡ lock_of n page }
 {
     match page {
-        0..=2 => LockBit::Absent,
-        3..=15 => LockBit::Static(page),
+        0..=2 => None,
+        3..=15 => Some(LockBit::Static(page)),
         _ => dynamic_lock(n, page),
     }
 }
@@ -146,41 +117,30 @@ pub fn is_set(number: u16, i: usize) -> bool
 
 // Whether a lock bit is set.
 fn set_in(statics: u16, dynamics: u16, lock: LockBit) -> bool
-    requires { bit_of lock < 16 }
-    ensures { result ≡ set_in statics dynamics lock }
+    requires { bit_of (Some lock) < 16 }
+    ensures { result ≡ set_in statics dynamics (Some lock) }
 {
     match lock {
         LockBit::Static(i) => is_set(statics, i),
         LockBit::Dynamic(i) => is_set(dynamics, i),
-        LockBit::Absent => false,
     }
 }
 
 // The bit that is set and locks a page, or none: then the page is open.
-pub fn locked_by(n: usize, statics: u16, dynamics: u16, page: usize) -> LockBit
+pub fn locked_by(n: usize, statics: u16, dynamics: u16, page: usize) -> Option<LockBit>
     requires { Sized n }
     ensures { result ≡ locked_by n statics dynamics page }
 {
-    let lock = lock_of(n, page);
+    let lock = lock_of(n, page)?;
     if set_in(statics, dynamics, lock) {
-        lock
+        Some(lock)
     } else {
-        LockBit::Absent
-    }
-}
-
-// Whether there is one.
-pub fn is_bit(lock: LockBit) -> bool
-    ensures { result ≡ is_bit lock }
-{
-    match lock {
-        LockBit::Static(_) => true,
-        LockBit::Dynamic(_) => true,
-        LockBit::Absent => false,
+        None
     }
 }
 
 // 1 where bit k is clear, else 0.
+#[tactic(auto, unfolding(crate::specs::Locks::clear_at))]
 fn clear(b: u16, k: usize) -> u16
     requires { k < 16 }
     ensures { (result ≡ clear_at b k) × (result ≤ 1) }
@@ -189,37 +149,26 @@ fn clear(b: u16, k: usize) -> u16
 }
 
 // The static locks that a WRITE may set.
+#[tactic(auto, unfolding(crate::specs::Locks::may_static, crate::specs::Locks::static_block))]
 fn static_mask(statics: u16) -> u16
     ensures { result ≡ of_bits 16 (may_static statics) }
 {
     0x0007 + 0x0008 * clear(statics, 0) + 0x03F0 * clear(statics, 1) + 0xFC00 * clear(statics, 2)
 }
 
-// The bits of these rows that a WRITE may set: those whose row names a block bit that is clear. Two rows at a time, since
+// The dynamic locks that a WRITE may set: those whose row names a block bit that is clear. Two rows at a time, the last first, since
 // "bit k blocks lock bits 2k and 2k+1".
-fn row_mask(start: usize, count: usize, blocks: u16) -> u16
-    requires { (start + count ≤ 34) × (count ≤ 14) × (start % 2 ≡ 0) × (count % 2 ≡ 0) }
-    ensures { result ≡ of_bits count (may_row start blocks) }
-{
-    // Copied once, where row_at would copy it at each turn.
-    let table = TABLE;
-    let mut mask: u16 = 0;
-    let mut i = count / 2;
-    while 0 < i {
-        i -= 1;
-        let row = table[start + 2 * i];
-        mask = 3 * clear(blocks, row.2 as usize) + 4 * mask;
-    }
-    mask
-}
-
-// The dynamic locks that a WRITE may set.
 fn dynamic_mask(n: usize, blocks: u16) -> u16
     requires { Sized n }
     ensures { result ≡ of_bits 16 (may_dynamic n blocks) }
 {
     let rows = rows_of(n);
-    row_mask(rows.start, rows.count, blocks)
+    let mut mask: u16 = 0;
+    for i in (0..rows.len() / 2).rev() {
+        let block = rows[2 * i].2;
+        mask = 3 * clear(blocks, usize::from(block)) + 4 * mask;
+    }
+    mask
 }
 
 // The block bits of the lock page that are defined.
@@ -245,7 +194,7 @@ pub fn dynamic_gain(n: usize, blocks: u8, dynamics: u16, d: u16) -> u16
     requires { Sized n }
     ensures { result ≡ dynamic_gain n blocks dynamics d }
 {
-    dynamics | d & dynamic_mask(n, blocks as u16)
+    dynamics | d & dynamic_mask(n, u16::from(blocks))
 }
 
 // The block bits after a WRITE of the lock page.

@@ -9,13 +9,14 @@ use lib.Seq.{length-take-le, take_at, drop_at, take-append-add, get_or-append-ad
 use borrow.Author.Tests.{le-leb, lt-ltb, le-ltb, ltb-false}
 use Rattle.basics.proofs.Choice.{by}
 use Rattle.locks.specs.Locks.{lock_page}
-use Rattle.image.specs.Layout.{four_at, bytes_of, Fits}
-use Rattle.screen.specs.Blocks.{Found, message, counted, block, walk}
-use Rattle.screen.specs.Reading.{is_reading, low_first_four, second_in, watts_in, verdict_at}
+use Rattle.std.specs.Prelude.{Ok}
+use Rattle.image.specs.Layout.{four_of, low_first_four, four_at, bytes_of, Fits}
+use Rattle.screen.specs.Blocks.{Found, counted, block, walk}
+use Rattle.screen.specs.Reading.{is_reading, second_in, watts_in, verdict_at}
 use Rattle.screen.specs.Screen.{reads, reading_seen, found_seen, user_bytes, seen}
 use Rattle.screen.specs.declared.reading.Verdict.{Verdict}
 use Rattle.screen.proofs.Kept as screen
-use Rattle.logger.specs.Writer.{four_of, reading_of, block_of, Written, written}
+use Rattle.logger.specs.Writer.{reading_of, block_of, Written, written}
 use Rattle.logger.specs.Promises.{written_at04, ReadBack, Promises}
 use Rattle.logger.specs.Examples.{Examples}
 use Rattle.logger.proofs.Writing.{block_length}
@@ -36,7 +37,7 @@ module _ (second watts : ℕ) (more : List ℕ) where
   unfolding block_of reading_of bytes_of four_at
   watts_back = four_back watts
 
-  walked : walk (block_of second watts ++ more) ≡ message (reading_of second watts)
+  walked : walk (block_of second watts ++ more) ≡ Ok (reading_of second watts)
   unfolding block counted block_of reading_of bytes_of
   walked = (screen.block_by_block).goes (block_of second watts ++ more) ∙ rw (le-leb 11 (length ((reading_of second watts ++ (0xFE ∷ [])) ++ more)) (omega arith))
 

@@ -1,15 +1,11 @@
 -- The writer for the logger, after request Q-7: "Write the reading of Q-6 into a lent user area". Assumes nothing.
-use Rattle.std.specs.Prelude.{◌≡◌, List, [], ◌∷◌, ◌++◌, cond, ℕ, ◌/◌, ◌%◌, ltb, length, drop}
-use Rattle.image.specs.declared.layout.Four.{Four}
-use Rattle.image.specs.Layout.{bytes_of}
+use Rattle.std.specs.Prelude.{◌≡◌, List, [], ◌∷◌, ◌++◌, cond, Result, Ok, Err, ℕ, ltb, length, drop}
+use Rattle.image.specs.Layout.{four_of, bytes_of}
+use Rattle.logger.specs.declared.ShortArea.{ShortArea}
 
 -- ---- "the reading of Q-6"
 
--- "each four bytes low first": of a number of 32 bits, of which no more than a byte is left above the third
-unfoldable pub four_of : ℕ → Four
-four_of n = record { b0 = n % 256; b1 = n / 256 % 256; b2 = n / 65536 % 256; b3 = n / 16777216 }
-
--- "the eleven bytes": "exactly D5 00 08 and eight bytes: seconds, then watts"
+-- "the eleven bytes": "exactly D5 00 08 and eight bytes: seconds, then watts, each four bytes low first"
 unfoldable pub reading_of : ℕ → ℕ → List ℕ
 reading_of second watts = 0xD5 ∷ 0x00 ∷ 0x08 ∷ (bytes_of (four_of second) ++ bytes_of (four_of watts))
 
@@ -30,6 +26,11 @@ written second watts area =
     cond (ltb (length area) 14)
     (record { refused = 23; area = area })
     (record { refused = 0; area = block_of second watts ++ drop 14 area })
+
+-- the number of an answer: of a refusal, or 0
+abbrev pub answer_number : Result Unit ShortArea → ℕ
+answer_number (Ok done) = 0
+answer_number (Err short_area) = 23
 
 -- what the call promises: the number that it answers, and every byte of the area
 pub record Wrote (due : Written) (r : ℕ) (after : List ℕ) : Type 0 where

@@ -2,32 +2,29 @@
 #![tactic(auto)]
 
 ghost use Rattle.std.specs.Prelude.{◌≡◌};
-ghost use Rattle.logger.specs.Writer.{four_of, block_of, written, Wrote};
+ghost use Rattle.logger.specs.Writer.{block_of, written, Wrote, answer_number};
 
-use basics::copy;
 use image::layout::Four;
 
 // The refusal: an area with no room for a reading.
-const SHORT_AREA: u8 = 23;
+#[derive(Clone, Copy, PartialEq, Eq)]
+pub struct ShortArea;
 
-// The four bytes of a number, the low one first.
-fn four_of(n: u32) -> Four
-    ensures { result ≡ four_of n }
-{
-    Four {
-        b0: (n % 256) as u8,
-        b1: (n / 256 % 256) as u8,
-        b2: (n / 65536 % 256) as u8,
-        b3: (n / 16777216) as u8,
+impl From<ShortArea> for u8 {
+    ghost from_gives = { λ _ n. n ≡ 23 };
+
+    fn from(_refusal: ShortArea) -> u8 {
+        23
     }
 }
 
 // A reading as it stands in an area: its message block, and the end of the blocks.
+#[tactic(auto, unfolding(crate::specs::Writer::block_of, crate::specs::Writer::reading_of, image::specs::Layout::bytes_of))]
 fn block_of(second: u32, watts: u32) -> [u8; 14]
     ensures { result ≡ block_of second watts }
 {
-    let s = four_of(second);
-    let w = four_of(watts);
+    let s = Four::from(second);
+    let w = Four::from(watts);
     [
         // A message of eleven bytes: those by which a reading is known, the second, the watts.
         0x03, 0x0B, 0xD5, 0x00, 0x08, s.b0, s.b1, s.b2, s.b3, w.b0, w.b1, w.b2, w.b3,
@@ -36,15 +33,12 @@ fn block_of(second: u32, watts: u32) -> [u8; 14]
     ]
 }
 
-// Writes a reading at the start of an area, whose other bytes stay. Answers 0, or the number of the refusal, and then nothing is written.
-#[tactic(auto, using(crate::proofs::Writing::writing))]
-pub fn write_reading(area: &mut [u8], second: u32, watts: u32) -> u8
-    ensures { Wrote (written second watts area.old) result area.new }
+// Writes a reading at the start of an area, whose other bytes stay. Where it is refused nothing is written.
+#[tactic(auto, using(crate::proofs::Writing::block_length), unfolding(crate::specs::Writer::written))]
+pub fn write_reading(area: &mut [u8], second: u32, watts: u32) -> Result<(), ShortArea>
+    ensures { Wrote (written second watts area.old) (answer_number result) area.new }
 {
-    if area.len() < 14 {
-        return SHORT_AREA;
-    }
-    let block = block_of(second, watts);
-    copy(&block, &mut area[0..14]);
-    0
+    let front = area.first_chunk_mut().ok_or(ShortArea)?;
+    *front = block_of(second, watts);
+    Ok(())
 }

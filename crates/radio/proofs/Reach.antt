@@ -5,9 +5,9 @@ use mathlib.Core.Bool.{Bool, true, false}
 use Prim.Native.Nat.{ℕ, ◌≤◌}
 use lib.ListN.{length}
 use borrow.Author.Tests.{le-leb, eq-eqb}
+use Rattle.std.specs.Prelude.{Some}
 use Rattle.crc_a.specs.CrcA.{sent as bytes_sent, with_crc}
 use Rattle.crc_a.proofs.Laws.{with_crc_right}
-use Rattle.image.specs.declared.layout.Size.TheVariants.{Pages}
 use Rattle.image.specs.Layout.{size_of}
 use Rattle.image.specs.Uid.{uid, cascade_tag, bcc0, bcc1}
 use Rattle.tag.specs.declared.state.Wait.TheVariants.{ToIdle}
@@ -46,7 +46,7 @@ ready2 = record { state = Ready2 ToIdle; answered = false }
 active : Tag
 active = record { state = Active ToIdle false; answered = false }
 
-module _ (n room : ℕ) (img : List ℕ) (r : TagRecord) (size : size_of (length img) ≡ Pages n) (enough : answer_room ≤ room) where
+module _ (n room : ℕ) (img : List ℕ) (r : TagRecord) (size : size_of (length img) ≡ Some n) (enough : answer_room ≤ room) where
   -- a call that isn't refused, on a record that was written
   heard_call : (t : Tag) (f : List ℕ) (bits : ℕ) (parity : Bool) → is_frame f bits ≡ true → called img room (record_of t) f bits parity ≡ taken (heard n img t f bits parity)
   unfolding called called_at

@@ -1,7 +1,5 @@
 -- The frame call: its refusals, and what comes out of it. Assumes nothing.
-use Rattle.std.specs.Prelude.{◌≡◌, List, Bool, cond, ◌&&◌, ◌||◌, ℕ, ◌+◌, ◌*◌, ◌/◌, ◌%◌, ◌^◌, ◌≤◌, eqb, leb, ltb, length}
-use Rattle.image.specs.declared.layout.Size.{Size}
-use Rattle.image.specs.declared.layout.Size.TheVariants.{Pages, Unknown}
+use Rattle.std.specs.Prelude.{◌≡◌, List, Bool, cond, ◌&&◌, ◌||◌, ℕ, ◌+◌, ◌*◌, ◌/◌, ◌%◌, ◌^◌, ◌≤◌, eqb, leb, ltb, length, Option, Some, None}
 use Rattle.image.specs.Layout.{size_of}
 use Rattle.tag.specs.Outcome.{arg, Reply, silence, bits_of, answer_of, over, Effect, keep, apply, Does, answer_room}
 use Rattle.tag.specs.Record.{tag_of, record_of}
@@ -32,9 +30,9 @@ unfoldable pub taken : Does → Called
 taken d = record { refused = 0; reply = d.reply; effect = d.effect; left = record_of d.tag }
 
 -- "2: answer buffer under 1,024 bytes"; "3: .."
-unfoldable pub called_at : Size → List ℕ → ℕ → TagRecord → List ℕ → ℕ → Bool → Called
-called_at Unknown img room r f bits parity = refusal 1 r
-called_at (Pages n) img room r f bits parity =
+unfoldable pub called_at : Option ℕ → List ℕ → ℕ → TagRecord → List ℕ → ℕ → Bool → Called
+called_at None img room r f bits parity = refusal 1 r
+called_at (Some n) img room r f bits parity =
     cond (leb answer_room room) (cond (is_frame f bits) (taken (heard n img (tag_of r) f bits parity)) (refusal 3 r)) (refusal 2 r)
 
 -- "1: image length isn't 184, 544 or 928"; "Tested in this order."

@@ -1,4 +1,5 @@
 pub mod Heard
 pub mod AtOnce
 pub mod Call
+pub mod Told
 pub mod Reach

@@ -6,6 +6,7 @@ use mathlib.Core.Bool.{Bool, true, false, cond, ◌&&◌, ◌||◌}
 use Prim.Native.Nat.{ℕ, zero, suc, ◌+◌, ◌-◌, ◌*◌, ◌/◌, ◌%◌, ◌≤◌, ◌<◌}
 use native.Mathlib.Nat.{le_of_suc-le-suc, not-suc-le-zero}
 use native.Mathlib.Omega.{arith}
+use Rattle.std.specs.Prelude.{Option, Some, None, IfSome, option_and_then}
 use lib.Dec.{leb, ltb}
 use lib.ListN.{get_or}
 use borrow.Author.Tests.{lt-ltb, le-leb, leb-true, ltb-true}
@@ -17,7 +18,6 @@ use Rattle.image.specs.declared.mirror.Mirror.{Mirror}
 use Rattle.image.specs.Layout.{Fits, page_at, first_settings, second_settings, region_of}
 use Rattle.image.specs.Settings.{auth0, access, count_readable}
 use Rattle.image.specs.Shown.{shown}
-use Rattle.image.specs.Mirror as mirror
 use Rattle.image.specs.Mirror.{wanted, text, allowed, mirror_for, replaced, through}
 use Rattle.image.proofs.Laws.{in_user}
 use Rattle.image.proofs.Stored.{page_same, page_other}
@@ -26,7 +26,7 @@ use Rattle.tag.specs.State.{authenticated}
 use Rattle.tag.specs.Outcome.{build, bits_of, Does, nak, says}
 use Rattle.reads.specs.Read.{bound, seen, page_byte, pages_by, pages_from, counting, read_answered, read, fast_read}
 use Rattle.reads.specs.Mirrored.{none, without, Alike, Mirrored, Untouched}
-use Rattle.reads.proofs.Laws.{length_pages, unmirrored_pages}
+use Rattle.reads.proofs.Laws.{length_pages}
 
 get_build : (f : ℕ → ℕ) (k j : ℕ) → j < k → get_or (build f k) j 0 ≡ f j
 get_build f zero j l = absurd (not-suc-le-zero l)
@@ -36,33 +36,40 @@ get_build f (suc k) (suc j) l = get_build (λ i. f (suc i)) k j (le_of_suc-le-su
 -- ---- where a mirror lies
 
 module _ (n : ℕ) (img : List ℕ) (a : Bool) where
-  lies : (P : Mirror → Type 0) → P mirror.none
-      → ((w : Mirror) → 16 ≤ w.start → w.start + w.length ≤ 4 * lock_page n → P w) → P (mirror_for n img a)
-  unfolding mirror_for allowed
-  lies P absent present =
-      let w = wanted (page_at img (first_settings n)) in
+  wanted_lies : (w : Mirror) → (i : ℕ) → i < w.length → allowed n img a w ≡ true → region_of n ((w.start + i) / 4) ≡ User
+  unfolding allowed
+  wanted_lies w i l h =
       let above = leb 16 w.start in
       let below = leb (w.start + w.length) (4 * lock_page n) in
       let may = leb (w.from + w.length) 15 || count_readable n img a in
-      by P (above && (below && may)) (λ h. present w (leb-true _ _ (and_left above (below && may) h)) (leb-true _ _ (and_left below may (and_right above (below && may) h)))) (λ _. absent)
+      let first : 16 ≤ w.start = leb-true _ _ (and_left above (below && may) h) in
+      let last : w.start + w.length ≤ 4 * lock_page n = leb-true _ _ (and_left below may (and_right above (below && may) h)) in
+      let p = (w.start + i) / 4 in
+      sym (in_user n p (n - p) (omega arith) (omega arith) (omega arith) (omega arith) (omega arith) (λ e. omega arith))
 
-  in_user_pages_lem : (i : ℕ) → i < (mirror_for n img a).length → region_of n (((mirror_for n img a).start + i) / 4) ≡ User
-  in_user_pages_lem i =
-      lies (λ m. i < m.length → region_of n ((m.start + i) / 4) ≡ User) (λ h. absurd (not-suc-le-zero h))
-      (λ w l r h. let p = (w.start + i) / 4 in sym (in_user n p (n - p) (omega arith) (omega arith) (omega arith) (omega arith) (omega arith) (λ e. omega arith)))
+  lies : (o : Option Mirror) → IfSome (option_and_then (λ m. cond (allowed n img a m) (Some m) None) o) (λ w. (i : ℕ) → i < w.length → region_of n ((w.start + i) / 4) ≡ User)
+  lies None = tt
+  lies (Some w) =
+      by (λ (o : Option Mirror). IfSome o (λ w. (i : ℕ) → i < w.length → region_of n ((w.start + i) / 4) ≡ User)) (allowed n img a w)
+      (λ h i l. wanted_lies w i l h) (λ _. tt)
+
+  in_user_pages_lem : IfSome (mirror_for n img a) (λ w. (i : ℕ) → i < w.length → region_of n ((w.start + i) / 4) ≡ User)
+  unfolding mirror_for
+  in_user_pages_lem = lies (wanted (page_at img (first_settings n)))
 
 -- ---- through it
 
-module _ (n : ℕ) (img : List ℕ) (m : Mirror) (p k : ℕ) where
-  inside : (i : ℕ) → i < m.length → 4 * p + k ≡ m.start + i → through n img m p k ≡ get_or (text n img) (m.from + i) 0
+module _ (n : ℕ) (img : List ℕ) (p k : ℕ) where
+  inside : (m : Mirror) (i : ℕ) → i < m.length → 4 * p + k ≡ m.start + i → through n img (Some m) p k ≡ get_or (text n img) (m.from + i) 0
   unfolding through replaced
-  inside i l e =
+  inside m i l e =
       let d : m.start + i - m.start ≡ i = omega arith in
       rw (e, le-leb m.start (m.start + i) (omega arith), lt-ltb (m.start + i) (m.start + m.length) (omega arith), d)
 
-  outside : ((i : ℕ) → i < m.length → 4 * p + k ≢ m.start + i) → through n img m p k ≡ shown n img p k
+  outside : (o : Option Mirror) → IfSome o (λ m. (i : ℕ) → i < m.length → 4 * p + k ≢ m.start + i) → through n img o p k ≡ shown n img p k
   unfolding through replaced
-  outside h =
+  outside None h = refl
+  outside (Some m) h =
       let j = 4 * p + k in
       let from_start = leb m.start j in
       let before_end = ltb j (m.start + m.length) in
@@ -74,16 +81,27 @@ module _ (n : ℕ) (img : List ℕ) (m : Mirror) (p k : ℕ) where
       (λ _. refl)
 
 module _ (n : ℕ) (img : List ℕ) (t : Tag) where
+  unmirrored : mirror_for n img (authenticated t) ≡ None → (a b count : ℕ) → pages_from n img t a b count ≡ pages_by (shown n img) a b count
+  unfolding seen through
+  unmirrored e a b count = ap (λ (o : Option Mirror). pages_by (through n img o) a b count) e
+
   at : (a b count j : ℕ) → j < 4 * count → get_or (pages_from n img t a b count) j 0 ≡ through n img (mirror_for n img (authenticated t)) ((a + j / 4) % b) (j % 4)
   unfolding pages_by page_byte seen
   at a b count j l = get_build _ (4 * count) j l
 
+  character_lem : (o : Option Mirror) → o ≡ mirror_for n img (authenticated t)
+      → IfSome o (λ w. (a b count i j : ℕ) → j < 4 * count → i < w.length → 4 * ((a + j / 4) % b) + j % 4 ≡ w.start + i
+      → get_or (pages_from n img t a b count) j 0 ≡ get_or (text n img) (w.from + i) 0)
+  character_lem None e = tt
+  character_lem (Some w) e = λ a b count i j l h p. at a b count j l ∙ ap (λ (o : Option Mirror). through n img o ((a + j / 4) % b) (j % 4)) (sym e) ∙ inside n img ((a + j / 4) % b) (j % 4) w i h p
+
   pub mirrored : Mirrored n img t
+  unfolding seen
   mirrored = record {
     in_user_pages = in_user_pages_lem n img (authenticated t);
-    character = λ a b count i j l h e. at a b count j l ∙ inside n img _ ((a + j / 4) % b) (j % 4) i h e;
-    other = λ a b count j l h. at a b count j l ∙ outside n img _ ((a + j / 4) % b) (j % 4) h;
-    as_before = λ z a b count. sym (unmirrored_pages n a b count img t z);
+    character = character_lem _ refl;
+    other = λ a b count j l h. at a b count j l ∙ outside n img ((a + j / 4) % b) (j % 4) _ h;
+    as_before = λ e a b count. unmirrored e a b count;
   }
 
 -- ---- the rest of a READ

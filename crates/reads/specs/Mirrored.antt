@@ -1,5 +1,5 @@
 -- What the mirror means for a reader, after document 02's Q-3: "The board's name in the page." Assumes nothing.
-use Rattle.std.specs.Prelude.{◌≡◌, ◌≢◌, List, ℕ, ◌+◌, ◌*◌, ◌/◌, ◌%◌, ◌<◌, get_or}
+use Rattle.std.specs.Prelude.{◌≡◌, ◌≢◌, List, ℕ, ◌+◌, ◌*◌, ◌/◌, ◌%◌, ◌<◌, get_or, Option, None, IfSome}
 use Rattle.image.specs.declared.layout.Four.{Four}
 use Rattle.image.specs.declared.layout.Region.TheVariants.{User}
 use Rattle.image.specs.declared.mirror.Mirror.{Mirror}
@@ -26,7 +26,7 @@ pub record Alike (o o' : Does) : Type 0 where
 
 -- of a board as it is once this read has counted, and a tag
 module _ (n : ℕ) (img : List ℕ) (t : Tag) where
-  abbrev m : Mirror
+  abbrev m : Option Mirror
   m = mirror_for n img (authenticated t)
 
   -- the place in the image of byte j of an answer, whose pages are a, a+1, .. and go round at b
@@ -35,15 +35,15 @@ module _ (n : ℕ) (img : List ℕ) (t : Tag) where
 
   pub record Mirrored : Type 0 where
     -- "A page below 04h, or any character past the user pages, means no mirror at all.": each character stands on a user page
-    pub in_user_pages : (i : ℕ) → i < m.length → region_of n ((m.start + i) / 4) ≡ User
+    pub in_user_pages : IfSome m (λ w. (i : ℕ) → i < w.length → region_of n ((w.start + i) / 4) ≡ User)
     -- "READ and FAST_READ show the characters": each at its place, whatever page the answer begins with and wherever it goes round
-    pub character : (a b count i j : ℕ) → j < 4 * count → i < m.length → place a b j ≡ m.start + i
-        → get_or (pages_from n img t a b count) j 0 ≡ get_or (text n img) (m.from + i) 0
+    pub character : IfSome m (λ w. (a b count i j : ℕ) → j < 4 * count → i < w.length → place a b j ≡ w.start + i
+        → get_or (pages_from n img t a b count) j 0 ≡ get_or (text n img) (w.from + i) 0)
     -- and all other bytes as they were shown before
-    pub other : (a b count j : ℕ) → j < 4 * count → ((i : ℕ) → i < m.length → place a b j ≢ m.start + i)
+    pub other : (a b count j : ℕ) → j < 4 * count → IfSome m (λ w. (i : ℕ) → i < w.length → place a b j ≢ w.start + i)
         → get_or (pages_from n img t a b count) j 0 ≡ shown n img ((a + j / 4) % b) (j % 4)
     -- "no mirror at all": every byte is shown as before
-    pub as_before : m.length ≡ 0 → (a b count : ℕ) → pages_from n img t a b count ≡ pages_by (shown n img) a b count
+    pub as_before : m ≡ None → (a b count : ℕ) → pages_from n img t a b count ≡ pages_by (shown n img) a b count
 
   -- "memory .. don't change": a READ and a FAST_READ do all the rest as on the board without a mirror
   pub record Untouched : Type 0 where

@@ -1,7 +1,8 @@
 -- READ and FAST_READ, after document 01's "Commands in ACTIVE": n is the number of pages, img the image, t the tag. Assumes nothing.
-use Rattle.std.specs.Prelude.{◌≡◌, List, cond, not, ◌&&◌, ℕ, ◌+◌, ◌-◌, ◌*◌, ◌/◌, ◌%◌, eqb, leb, ltb}
+use Rattle.std.specs.Prelude.{◌≡◌, List, cond, not, ◌&&◌, ℕ, ◌+◌, ◌-◌, ◌*◌, ◌/◌, ◌%◌, leb, ltb, Option, is_none}
 use Rattle.image.specs.Layout.{page_at, tail_page}
 use Rattle.image.specs.Settings.{auth0, prot, counter_on}
+use Rattle.image.specs.declared.layout.Four.{Four}
 use Rattle.image.specs.declared.mirror.Mirror.{Mirror}
 use Rattle.image.specs.Mirror.{through, mirrored}
 use Rattle.image.specs.Shown.{shown}
@@ -24,6 +25,10 @@ seen n img t p k = mirrored n img (authenticated t) p k
 -- byte j of the pages a, a+1, .., which go round at b, where byte k of page p is `show p k`
 unfoldable pub page_byte : (ℕ → ℕ → ℕ) → ℕ → ℕ → ℕ → ℕ
 page_byte show a b j = show ((a + j / 4) % b) (j % 4)
+
+-- the four bytes of a page
+abbrev pub page_by : (ℕ → ℕ → ℕ) → ℕ → Four
+page_by show p = record { b0 = show p 0; b1 = show p 1; b2 = show p 2; b3 = show p 3 }
 
 unfoldable pub pages_by : (ℕ → ℕ → ℕ) → ℕ → ℕ → ℕ → List ℕ
 pages_by show a b count = build (page_byte show a b) (4 * count)
@@ -60,6 +65,6 @@ pub record Counts (n : ℕ) (img : List ℕ) (t : Tag) (a b count : ℕ) (t' : T
   pub image : image' ≡ apply img (counting n img t)
   pub pages : Lays (shown n image') a b count before after
 
--- these pages were laid through the mirror m, or it shows nothing and all stayed
-pub record Covers (n : ℕ) (img : List ℕ) (m : Mirror) (a b count : ℕ) (before after : List ℕ) : Type 0 where
-  pub whole : after ≡ cond (eqb m.length 0) before (over (pages_by (through n img m) a b count) before)
+-- these pages were laid through the mirror m, or there is none and all stayed
+pub record Covers (n : ℕ) (img : List ℕ) (m : Option Mirror) (a b count : ℕ) (before after : List ℕ) : Type 0 where
+  pub whole : after ≡ cond (is_none m) before (over (pages_by (through n img m) a b count) before)

@@ -11,7 +11,7 @@ use lib.ListN.{length, get_or}
 use borrow.Author.Tests.{eqb-true, eq-eqb}
 use Rattle.crc_a.specs.CrcA.{crc_right}
 use Rattle.image.specs.declared.layout.Four.{Four}
-use Rattle.image.specs.declared.layout.Size.TheVariants.{Pages}
+use Rattle.std.specs.Prelude.{Option, Some, None}
 use Rattle.image.specs.Layout.{size_of, byte, page_at, pwd_page, pack_page}
 use Rattle.image.specs.Settings.{counter_on, count_readable, authlim}
 use Rattle.image.specs.Write.{written}
@@ -27,8 +27,8 @@ use Rattle.tag.specs.Outcome.{Reply, silence, nibble, bytes, plain, bits_of, ans
 use Rattle.reads.specs.Read.{bound, pages_from, counting, read_answered, read, fast_read}
 use Rattle.commands.specs.Commands.{under_password, refuses, write, version, read_count, limit_reached, same, failing, wrong_counted, accepted, rejected, pwd_auth, hlta}
 use Rattle.active.specs.declared.Command.{Command}
-use Rattle.active.specs.declared.Command.TheVariants.{Read, FastRead, Write, Version, Count, Auth, Hlta, Unknown}
-use Rattle.active.specs.Frame.{length_of, named, command_of, done, in_active}
+use Rattle.active.specs.declared.Command.TheVariants.{Read, FastRead, Write, Version, Count, Auth, Hlta}
+use Rattle.active.specs.Frame.{length_of, named, command_of, asked, in_active}
 use Rattle.selection.specs.Selection.{is_reqa, is_wupa, wakes, in_idle, in_halt, own1, own2, sent as forty, asks, known, anticollision, select, in_ready, in_ready1, in_ready2}
 use Rattle.tag.specs.declared.record.TagRecord.{TagRecord}
 use Rattle.tag.specs.Record.{tag_of}
@@ -40,14 +40,14 @@ use Rattle.basics.proofs.Choice.{never, split, by, and_left, and_right, and_both
 use Rattle.runs.specs.Run.{Frame, sent, ours}
 use Rattle.runs.specs.Seen.{acks, data_for, carries, offers}
 
-pub data Change (n : ℕ) (img : List ℕ) (t : Tag) (c : Command) (o : Reply) (e : Effect) : Type 0 where
+pub data Change (n : ℕ) (img : List ℕ) (t : Tag) (c : Option Command) (o : Reply) (e : Effect) : Type 0 where
   -- where something is acknowledged, it writes no page
   kept : e ≡ keep → (acks o ≡ true → (p : ℕ) (old : Four) → data_for p old c ≡ old) → Change n img t c o e
-  stored : (a : ℕ) (d : Four) → c ≡ Write a d → refuses n img t a ≡ false → acks o ≡ true → e ≡ put a (written n a (page_at img a) d) → Change n img t c o e
+  stored : (a : ℕ) (d : Four) → c ≡ Some (Write a d) → refuses n img t a ≡ false → acks o ≡ true → e ≡ put a (written n a (page_at img a) d) → Change n img t c o e
   tailed : (v : Four) → counter_in (page_at img n) ≤ counter_in v → acks o ≡ false → e ≡ put n v → Change n img t c o e
 
 -- what comes out of a frame that carries c, where Q says that no password is offered
-pub record Step (n : ℕ) (img : List ℕ) (t : Tag) (c : Command) (Q : Type 0) (d : Does) : Type 0 where
+pub record Step (n : ℕ) (img : List ℕ) (t : Tag) (c : Option Command) (Q : Type 0) (d : Does) : Type 0 where
   pub change : Change n img t c d.reply d.effect
   pub auth : authenticated t ≡ false → Q → authenticated d.tag ≡ false
   pub hush : d.reply ≡ silence → d.effect ≡ keep
@@ -92,7 +92,7 @@ hearing_out s f bits parity = by (λ (x : State). authenticated_in x ≡ authent
 
 -- ---- leaves
 
-module _ {n : ℕ} {img : List ℕ} {t : Tag} {c : Command} {Q : Type 0} where
+module _ {n : ℕ} {img : List ℕ} {t : Tag} {c : Option Command} {Q : Type 0} where
   -- the image is kept, and no ACK is heard
   stay : (r : Reply) (u : Tag) → acks r ≡ false → (authenticated t ≡ false → authenticated u ≡ false) → Step n img t c Q (does r keep u)
   stay r u e h = record { change = kept refl (λ y p old. never (sym y ∙ e)); auth = λ a _. h a; hush = λ _. refl }
@@ -118,36 +118,36 @@ module _ {n : ℕ} {img : List ℕ} {t : Tag} {c : Command} {Q : Type 0} where
 
 -- ---- the commands
 
-done_step : (n : ℕ) (img : List ℕ) (t : Tag) (c : Command) → Step n img t c (carries (page_at img (pwd_page n)) c ≡ false) (done n img t c)
+asked_step : (n : ℕ) (img : List ℕ) (t : Tag) (c : Option Command) → Step n img t c (carries (page_at img (pwd_page n)) c ≡ false) (asked n img t c)
 unfolding carries acks read fast_read write version read_count pwd_auth accepted rejected wrong_counted failing with_failed counter_in hlta halted moved bits_of answer_of ack nak_after says
-done_step n img t (Read a) = let P = Step n img t (Read a) _ in by P (ltb a (bound n img t)) (λ _. read_step _ _ _) (λ _. nak_step 0 refl)
-done_step n img t (FastRead s e) = let P = Step n img t (FastRead s e) _ in by P (leb s e && ltb e (bound n img t)) (λ _. read_step _ _ _) (λ _. nak_step 0 refl)
-done_step n img t (Write a d) =
-    by (Step n img t (Write a d) _) (refuses n img t a) (λ _. nak_step 0 refl)
+asked_step n img t (Some (Read a)) = let P = Step n img t (Some (Read a)) _ in by P (ltb a (bound n img t)) (λ _. read_step _ _ _) (λ _. nak_step 0 refl)
+asked_step n img t (Some (FastRead s e)) = let P = Step n img t (Some (FastRead s e)) _ in by P (leb s e && ltb e (bound n img t)) (λ _. read_step _ _ _) (λ _. nak_step 0 refl)
+asked_step n img t (Some (Write a d)) =
+    by (Step n img t (Some (Write a d)) _) (refuses n img t a) (λ _. nak_step 0 refl)
     (λ h. record { change = stored a d refl h refl refl; auth = λ a _. a; hush = λ e. cc })
-done_step n img t Version = data_step _
-done_step n img t (Count x) = by (Step n img t (Count x) _) (eqb x 0x02 && count_readable n img (authenticated t)) (λ _. data_step _) (λ _. nak_step 0 refl)
-done_step n img t (Auth p) =
-    by (Step n img t (Auth p) _) (limit_reached n img) (λ _. nak_step 0 refl)
-    (λ _. by (Step n img t (Auth p) _) (same p (page_at img (pwd_page n)))
+asked_step n img t (Some Version) = data_step _
+asked_step n img t (Some (Count x)) = by (Step n img t (Some (Count x)) _) (eqb x 0x02 && count_readable n img (authenticated t)) (λ _. data_step _) (λ _. nak_step 0 refl)
+asked_step n img t (Some (Auth p)) =
+    by (Step n img t (Some (Auth p)) _) (limit_reached n img) (λ _. nak_step 0 refl)
+    (λ _. by (Step n img t (Some (Auth p)) _) (same p (page_at img (pwd_page n)))
     (λ s. record { change = tailed _ (le_refl _) (bytes_no_ack (byte img (pack_page n) 0 ∷ byte img (pack_page n) 1 ∷ [])) refl; auth = λ a q. never (sym s ∙ q); hush = λ e. cc })
-    (λ q. by (λ (e : Effect). Step n img t (Auth p) (carries (page_at img (pwd_page n)) (Auth p) ≡ false) (nak_after e t 0)) (eqb (authlim n img) 0) (λ _. nak_step 0 refl)
+    (λ q. by (λ (e : Effect). Step n img t (Some (Auth p)) (carries (page_at img (pwd_page n)) (Some (Auth p)) ≡ false) (nak_after e t 0)) (eqb (authlim n img) 0) (λ _. nak_step 0 refl)
     (λ _. record { change = tailed _ (le_refl _) refl refl; auth = λ a _. back_out t.state; hush = λ e. cc })))
-done_step n img t (Hlta x) = by (Step n img t (Hlta x) _) (eqb x 0x00) (λ _. stay silence _ refl (λ _. refl)) (λ _. nak_step 0 refl)
-done_step n img t Unknown = nak_step 0 refl
+asked_step n img t (Some (Hlta x)) = by (Step n img t (Some (Hlta x)) _) (eqb x 0x00) (λ _. stay silence _ refl (λ _. refl)) (λ _. nak_step 0 refl)
+asked_step n img t None = nak_step 0 refl
 
 -- ---- the states
 
 -- a frame whose code names no command
-unknown_code : (f : List ℕ) (code : ℕ) → named f code ≡ Unknown → get_or f 0 0 ≡ code → command_of f ≡ Unknown
+unknown_code : (f : List ℕ) (code : ℕ) → named f code ≡ None → get_or f 0 0 ≡ code → command_of f ≡ None
 unfolding command_of
-unknown_code f code h e = rw (e, h) (sym (same_either (eqb (length f) (length_of code)) Unknown))
+unknown_code f code h e = rw (e, h) (sym (same_either (eqb (length f) (length_of code)) None))
 
 -- a password is carried by a command of seven bytes alone
 other_carries : (pwd : Four) (f : List ℕ) (code : ℕ) → eqb code 0x1B ≡ false → carries pwd (named f code) ≡ false
 unfolding carries
 other_carries pwd f code e =
-    let P : Command → Type 0 = λ c. carries pwd c ≡ false in
+    let P : Option Command → Type 0 = λ c. carries pwd c ≡ false in
     by P (eqb code 0x30) (λ _. refl)
     (λ _. by P (eqb code 0x3A) (λ _. refl)
     (λ _. by P (eqb code 0xA2) (λ _. refl)
@@ -159,7 +159,7 @@ other_carries pwd f code e =
 carries_seven : (pwd : Four) (f : List ℕ) → carries pwd (command_of f) ≡ true → length f ≡ 7
 unfolding command_of carries
 carries_seven pwd f =
-    by (λ (c : Command). carries pwd c ≡ true → length f ≡ 7) (eqb (length f) (length_of (get_or f 0 0)))
+    by (λ (c : Option Command). carries pwd c ≡ true → length f ≡ 7) (eqb (length f) (length_of (get_or f 0 0)))
     (λ e h. split (eqb (get_or f 0 0) 0x1B)
     (λ y. eqb-true (length f) (length_of (get_or f 0 0)) e ∙ ap length_of (eqb-true (get_or f 0 0) 0x1B y)) (λ y. never (sym h ∙ other_carries pwd f (get_or f 0 0) y)))
     (λ _ h. never (sym h))
@@ -185,7 +185,7 @@ module _ (n : ℕ) (img : List ℕ) (t : Tag) (f : Frame) where
   halt_step = by Steps (is_wupa f.bytes f.bits) (λ _. wakes_step) (λ _. silent_step t (λ a. a))
 
   -- a frame of selection is no WRITE
-  module _ (unknown : command_of f.bytes ≡ Unknown) (own sak : ℕ) where
+  module _ (unknown : command_of f.bytes ≡ None) (own sak : ℕ) where
     anticollision_step : Steps (anticollision t f.bytes f.bits own)
     unfolding anticollision data_for
     anticollision_step =
@@ -198,7 +198,7 @@ module _ (n : ℕ) (img : List ℕ) (t : Tag) (f : Frame) where
         by Steps (eqb f.bits 72 && (eqb (forty f.bytes) own && crc_right f.bytes))
         (λ _. stay (bytes (sak ∷ [])) _ (bytes_no_ack (sak ∷ [])) (λ a. (moves_out t.state a).1)) (λ _. lost_step)
 
-  ready_step : (code own sak : ℕ) → (get_or f.bytes 0 0 ≡ code → command_of f.bytes ≡ Unknown) → Steps (in_ready t f.bytes f.bits f.parity code own sak)
+  ready_step : (code own sak : ℕ) → (get_or f.bytes 0 0 ≡ code → command_of f.bytes ≡ None) → Steps (in_ready t f.bytes f.bits f.parity code own sak)
   unfolding in_ready
   ready_step code own sak unknown =
       by Steps (f.parity && eqb (get_or f.bytes 0 0) code)
@@ -222,7 +222,7 @@ module _ (n : ℕ) (img : List ℕ) (t : Tag) (f : Frame) where
     active_step =
         by Steps (eqb (f.bits % 8) 0 && leb 3 (length f.bytes))
         (λ e. by Steps (f.parity && crc_right f.bytes)
-        (λ h. let s = done_step n img t (command_of f.bytes) in
+        (λ h. let s = asked_step n img t (command_of f.bytes) in
         let z = eqb-true (f.bits % 8) 0 (and_left (eqb (f.bits % 8) 0) _ e) in
         let pwd = page_at img (pwd_page n) in
         record {
@@ -247,7 +247,7 @@ module _ (n : ℕ) (img : List ℕ) (t u : Tag) (f : Frame) (same : authenticate
   unfolding refuses under_password
   refuses_alike a = rw same
 
-  change_alike : (c : Command) (o : Reply) (e : Effect) → Change n img u c o e → Change n img t c o e
+  change_alike : (c : Option Command) (o : Reply) (e : Effect) → Change n img u c o e → Change n img t c o e
   change_alike c o e (kept k q) = kept k q
   change_alike c o e (stored a d w r k q) = stored a d w (sym (refuses_alike a) ∙ r) k q
   change_alike c o e (tailed v l k q) = tailed v l k q
@@ -262,7 +262,7 @@ abbrev pub done_by : Called → Does
 done_by o = does o.reply o.effect (tag_of o.left)
 
 -- on an image of n pages
-pub call_step : (n : ℕ) (img : List ℕ) (r : TagRecord) (f : Frame) → size_of (length img) ≡ Pages n
+pub call_step : (n : ℕ) (img : List ℕ) (r : TagRecord) (f : Frame) → size_of (length img) ≡ Some n
     → Step n img (tag_of r) (command_of f.bytes) (offers (page_at img (pwd_page n)) (sent f) ≡ false) (done_by (ours img r f))
 unfolding ours called called_at taken refusal heard moved
 call_step n img r f size =
@@ -273,7 +273,7 @@ call_step n img r f size =
     rw size
     (by P (leb answer_room f.room)
     (λ _. by P (is_frame f.bytes f.bits)
-    (λ e. let whole = frame_whole f.bytes f.bits _ refl e in
+    (λ e. let whole = frame_whole f.bytes f.bits e in
     rw read_again (steps_alike n img t u f (hearing_out t.state f.bytes f.bits f.parity) _ (heard_step n img u f whole s)))
     (λ _. silent_step n img t f t (λ a. a)))
     (λ _. silent_step n img t f t (λ a. a)))

@@ -12,7 +12,7 @@ use Rattle.basics.proofs.Choice.{never, split}
 use Rattle.image.specs.declared.layout.Four.{Four}
 use Rattle.image.specs.declared.layout.Region.{Region}
 use Rattle.image.specs.declared.layout.Region.TheVariants.{User, Settings}
-use Rattle.image.specs.declared.layout.Size.TheVariants.{Pages, Unknown}
+use Rattle.std.specs.Prelude.{Option, Some, None}
 use Rattle.image.specs.Layout.{Fits, size_of, page_at, second_settings, pwd_page, region_of}
 use Rattle.image.specs.Settings.{auth0, settings_locked}
 use Rattle.image.specs.Write.{locked, written, write, NoneCleared}
@@ -54,7 +54,7 @@ user_within n p u = split (leb n p) (λ e. let o = outside n p (leb-true n p e) 
 
 -- ---- one change
 
-module _ {n : ℕ} {img : List ℕ} {t : Tag} {c : Command} {o : Reply} {e : Effect} (fit : Fits n img) where
+module _ {n : ℕ} {img : List ℕ} {t : Tag} {c : Option Command} {o : Reply} {e : Effect} (fit : Fits n img) where
   -- a page to which a WRITE is refused stays
   page_kept : Change n img t c o e → (p : ℕ) → p < n → refuses n img t p ≡ true → page_at (apply img e) p ≡ page_at img p
   unfolding apply
@@ -89,7 +89,7 @@ module _ {n : ℕ} {img : List ℕ} {t : Tag} {c : Command} {o : Reply} {e : Eff
 
 -- from k to k' by the input i, on an image of n pages
 pub record InputKeeps (n : ℕ) (k : Kept) (i : Input) (k' : Kept) : Type 0 where
-  pub size : size_of (length k'.image) ≡ Pages n
+  pub size : size_of (length k'.image) ≡ Some n
   pub user : (p : ℕ) → region_of n p ≡ User → page_at k'.image p ≡ new_for ours p k i (page_at k.image p)
   pub cleared : NoneCleared n k.image k'.image
   pub settings : settings_locked n k.image ≡ true → settings_locked n k'.image ≡ true
@@ -98,7 +98,7 @@ pub record InputKeeps (n : ℕ) (k : Kept) (i : Input) (k' : Kept) : Type 0 wher
   pub guarded : authenticated (tag_of k.rec) ≡ false → (p : ℕ) → auth0 n k.image ≤ p → p < n → page_at k'.image p ≡ page_at k.image p
   pub out : authenticated (tag_of k.rec) ≡ false → offers (page_at k.image (pwd_page n)) i ≡ false → authenticated (tag_of k'.rec) ≡ false
 
-pub input_keeps : (n : ℕ) (k : Kept) (i : Input) → size_of (length k.image) ≡ Pages n → InputKeeps n k i (next ours k i)
+pub input_keeps : (n : ℕ) (k : Kept) (i : Input) → size_of (length k.image) ≡ Some n → InputKeeps n k i (next ours k i)
 unfolding next new_for page_at field_loss field_off
 input_keeps n k (sent f) size =
     let img = k.image in
@@ -129,7 +129,7 @@ input_keeps n k lost size = record {
 }
 
 -- an image whose length has no size is refused at every call, and stays
-pub unsized_keeps : (k : Kept) (i : Input) → size_of (length k.image) ≡ Unknown → (next ours k i).image ≡ k.image
+pub unsized_keeps : (k : Kept) (i : Input) → size_of (length k.image) ≡ None → (next ours k i).image ≡ k.image
 unfolding next ours called called_at refusal apply
 unsized_keeps k (sent f) size = rw size
 unsized_keeps k lost size = refl

@@ -1,11 +1,11 @@
 -- What an onlooker with a reader sees of a run: which WRITEs were acknowledged, and whether the password was offered. Assumes nothing.
-use Rattle.std.specs.Prelude.{List, [], ◌∷◌, Bool, true, false, cond, not, ◌&&◌, ℕ, eqb, get_or}
+use Rattle.std.specs.Prelude.{List, [], ◌∷◌, Bool, true, false, cond, not, ◌&&◌, ℕ, eqb, get_or, Option, Some, None}
 use Rattle.crc_a.specs.CrcA.{crc_right}
 use Rattle.image.specs.declared.layout.Four.{Four}
 use Rattle.tag.specs.Outcome.{Reply, bits_of, answer_of}
 use Rattle.commands.specs.Commands.{same}
 use Rattle.active.specs.declared.Command.{Command}
-use Rattle.active.specs.declared.Command.TheVariants.{Read, FastRead, Write, Version, Count, Auth, Hlta, Unknown}
+use Rattle.active.specs.declared.Command.TheVariants.{Read, FastRead, Write, Version, Count, Auth, Hlta}
 use Rattle.active.specs.Frame.{command_of}
 use Rattle.runs.specs.Run.{Input, sent, lost, Call, Kept, next}
 
@@ -16,15 +16,15 @@ unfoldable pub acks : Reply → Bool
 acks o = eqb (bits_of o) 4 && eqb (get_or (answer_of o) 0 0) 0xA
 
 -- the four bytes that a command writes to page p, else old
-unfoldable pub data_for : ℕ → Four → Command → Four
-data_for p old (Write a d) = cond (eqb a p) d old
-data_for p old (Read a) = old
-data_for p old (FastRead s e) = old
-data_for p old Version = old
-data_for p old (Count x) = old
-data_for p old (Auth q) = old
-data_for p old (Hlta x) = old
-data_for p old Unknown = old
+unfoldable pub data_for : ℕ → Four → Option Command → Four
+data_for p old (Some (Write a d)) = cond (eqb a p) d old
+data_for p old (Some (Read a)) = old
+data_for p old (Some (FastRead s e)) = old
+data_for p old (Some Version) = old
+data_for p old (Some (Count x)) = old
+data_for p old (Some (Auth q)) = old
+data_for p old (Some (Hlta x)) = old
+data_for p old None = old
 
 -- what page p then holds, having held old: the four bytes that an input writes to it and the tag acknowledges, else old
 unfoldable pub new_for : Call → ℕ → Kept → Input → Four → Four
@@ -38,15 +38,15 @@ last_written call p k (i ∷ is) old = last_written call p (next call k i) is (n
 
 -- ---- the password
 
-unfoldable pub carries : Four → Command → Bool
-carries pwd (Auth p) = same p pwd
-carries pwd (Read a) = false
-carries pwd (FastRead s e) = false
-carries pwd (Write a d) = false
-carries pwd Version = false
-carries pwd (Count x) = false
-carries pwd (Hlta x) = false
-carries pwd Unknown = false
+unfoldable pub carries : Four → Option Command → Bool
+carries pwd (Some (Auth p)) = same p pwd
+carries pwd (Some (Read a)) = false
+carries pwd (Some (FastRead s e)) = false
+carries pwd (Some (Write a d)) = false
+carries pwd (Some Version) = false
+carries pwd (Some (Count x)) = false
+carries pwd (Some (Hlta x)) = false
+carries pwd None = false
 
 -- a whole PWD_AUTH frame with these four bytes
 unfoldable pub offers : Four → Input → Bool

@@ -9,6 +9,7 @@ use radio::Answer;
 use tag::record::TagRecord;
 
 // The frame call, whose contract is the step that the theorems run over.
+#[tactic(auto, unfolding(crate::specs::Run::ours))]
 pub fn step(
     image: &mut [u8],
     answer: &mut [u8],

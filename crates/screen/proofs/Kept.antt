@@ -7,29 +7,30 @@ use lib.ListN.{length, drop, get_or, length-take, length-drop}
 use lib.Seq.{ext_get_or, get_or-take, get_or-drop}
 use Rattle.locks.specs.Locks.{lock_page}
 use Rattle.locks.proofs.Lock.{by_size_lem}
-use Rattle.image.specs.declared.layout.Size.TheVariants.{Pages}
-use Rattle.image.specs.Layout.{size_of, four_at, Fits}
+use Rattle.std.specs.Prelude.{Some}
+use Rattle.image.specs.Layout.{size_of, four_at, low_first_four, Fits}
 use Rattle.screen.specs.Blocks.{counted, block, blocks, walk, BlockByBlock}
-use Rattle.screen.specs.Reading.{is_reading, low_first_four, verdict_at}
+use Rattle.screen.specs.Reading.{is_reading, verdict_at}
 use Rattle.screen.specs.Screen.{reading_seen, found_seen, user_bytes, seen}
 use Rattle.screen.specs.Promises.{Ages, SameUserPages, Promises}
 use Rattle.screen.specs.Examples.{Examples}
+use Rattle.std.proofs.lemmas.Grind.{common_steps}
 use Rattle.screen.proofs.Walking.{goes, only, stops}
-use Rattle.screen.proofs.Seeing.{age_ahead, age_live, age_old}
 
 ages : Ages
+unfolding verdict_at
 ages = record {
-  live = λ second age h. sym (age_live (second + age) second (omega arith) (omega arith));
-  old = λ second age h. sym (age_old (second + age) second (omega arith) (omega arith));
-  ahead = λ present second h. sym (age_ahead present second h);
+  live = λ second age h. grind (arith, common_steps);
+  old = λ second age h. grind (arith, common_steps);
+  ahead = λ present second h. grind (arith, common_steps);
 }
 
 -- ---- the user pages
 
 module _ (n : ℕ) (img : List ℕ) (f : Fits n img) where
-  pub sized : size_of (length img) ≡ Pages n
+  pub sized : size_of (length img) ≡ Some n
   unfolding size_of
-  sized = ap size_of f.whole ∙ by_size_lem (λ (k : ℕ). size_of (4 * k + 4) ≡ Pages k) refl refl refl f.size
+  sized = ap size_of f.whole ∙ by_size_lem (λ (k : ℕ). size_of (4 * k + 4) ≡ Some k) refl refl refl f.size
 
   pub seen_there : (present : ℕ) → seen img present ≡ found_seen (walk (user_bytes n img)) present
   unfolding seen

@@ -1,4 +1,3 @@
 pub mod Walking
-pub mod Spans
-pub mod Seeing
+pub mod Values
 pub mod Kept

@@ -10,7 +10,9 @@ use lib.Seq.{length-take-le, take_at, drop_at}
 use borrow.Author.Tests.{leb-true, le-leb}
 use Rattle.basics.specs.Bytes.{low_first}
 use Rattle.basics.proofs.Choice.{by, never}
-use Rattle.screen.specs.Blocks.{Value, holds, passes, counted, long_value, value_of, Found, message, nowhere, cut, taken, passed_over, block, blocks, walk}
+use Rattle.std.specs.Prelude.{Some, None, Ok, Err}
+use Rattle.screen.specs.declared.refusals.Refusal.TheVariants.{NoMessage, Passes}
+use Rattle.screen.specs.Blocks.{Value, counted, long_value, value_of, Found, taken, passed_over, block, blocks, walk}
 use Rattle.screen.specs.Promises.{StopsAt}
 
 -- ---- a length and the bytes that it counts
@@ -19,11 +21,11 @@ use Rattle.screen.specs.Promises.{StopsAt}
 record Counts (xs a b : List ℕ) : Type 0 where
   front : List ℕ
   whole : xs ≡ front ++ (a ++ b)
-  any : (ys : List ℕ) → value_of (front ++ (a ++ ys)) ≡ holds a ys
+  any : (ys : List ℕ) → value_of (front ++ (a ++ ys)) ≡ Some (a, ys)
 
 abbrev Cuts : List ℕ → Value → Type 0
-Cuts xs (holds a b) = Counts xs a b
-Cuts xs passes = Unit
+Cuts xs (Some (a, b)) = Counts xs a b
+Cuts xs None = Unit
 
 counts : (front : List ℕ) (n : ℕ) (xs : List ℕ) → ((ys : List ℕ) → value_of (front ++ ys) ≡ counted n ys) → Cuts (front ++ xs) (counted n xs)
 unfolding counted
@@ -32,7 +34,7 @@ counts front n xs reads = by (Cuts (front ++ xs)) (leb n (length xs)) (λ e. her
     here : n ≤ length xs → Counts (front ++ xs) (take n xs) (drop n xs)
     here h = record { front = front; whole = ap (λ (l : List ℕ). front ++ l) (sym (take-append-drop n xs)); any = same }
       where
-        same : (ys : List ℕ) → value_of (front ++ (take n xs ++ ys)) ≡ holds (take n xs) ys
+        same : (ys : List ℕ) → value_of (front ++ (take n xs ++ ys)) ≡ Some (take n xs, ys)
         same ys =
             let l : length (take n xs) ≡ n = length-take-le n xs h in
             reads (take n xs ++ ys)
@@ -55,8 +57,8 @@ shorter xs a b c = omega (arith, ap length c.whole, length-append c.front (a ++ 
 
 module _ (f g : List ℕ → Found) where
   passed_same : (xs : List ℕ) (v : Value) → Cuts xs v → ((ys : List ℕ) → length ys ≤ length xs → f ys ≡ g ys) → passed_over f v ≡ passed_over g v
-  passed_same xs (holds a b) c same = same b (shorter xs a b c)
-  passed_same xs passes c same = refl
+  passed_same xs (Some (a, b)) c same = same b (shorter xs a b c)
+  passed_same xs None c same = refl
 
   -- a block asks only for what is behind it
   block_same : (xs : List ℕ) → ((ys : List ℕ) → length ys < length xs → f ys ≡ g ys) → block f xs ≡ block g xs
@@ -98,14 +100,13 @@ record First (xs m : List ℕ) : Type 0 where
   front : List ℕ
   rest : List ℕ
   whole : xs ≡ front ++ (m ++ rest)
-  any : (ys : List ℕ) → walk (front ++ (m ++ ys)) ≡ message m
+  any : (ys : List ℕ) → walk (front ++ (m ++ ys)) ≡ Ok m
 
 abbrev is_message : Found → Bool
-is_message (message m) = true
-is_message nowhere = false
-is_message cut = false
+is_message (Ok m) = true
+is_message (Err refusal) = false
 
-no_message : {C : Type 0} {m : List ℕ} (f : Found) → is_message f ≡ false → f ≡ message m → C
+no_message : {C : Type 0} {m : List ℕ} (f : Found) → is_message f ≡ false → f ≡ Ok m → C
 no_message f e h = never (sym (ap is_message h) ∙ e)
 
 module _ (type : ℕ) (xs m : List ℕ) where
@@ -115,9 +116,9 @@ module _ (type : ℕ) (xs m : List ℕ) where
       record { front = type ∷ f.front; rest = f.rest; whole = ap (λ (l : List ℕ). type ∷ l) f.whole; any = λ ys. goes (type ∷ (f.front ++ (m ++ ys))) ∙ rw e (f.any ys) }
 
   module _ (some : eqb type 0x00 ≡ false) (goes_on : eqb type 0xFE ≡ false) where
-    first_here : eqb type 0x03 ≡ true → (v : Value) → Cuts xs v → taken v ≡ message m → First (type ∷ xs) m
+    first_here : eqb type 0x03 ≡ true → (v : Value) → Cuts xs v → taken v ≡ Ok m → First (type ∷ xs) m
     unfolding block
-    first_here e (holds a b) c h =
+    first_here e (Some (a, b)) c h =
         let p : a ≡ m = cc in
         rw (← p)
         (record {
@@ -126,12 +127,12 @@ module _ (type : ℕ) (xs m : List ℕ) where
           whole = ap (λ (l : List ℕ). type ∷ l) c.whole;
           any = λ ys. goes (type ∷ (c.front ++ (a ++ ys))) ∙ rw (some, goes_on, e, c.any ys);
         })
-    first_here e passes c h = no_message cut refl h
+    first_here e None c h = no_message (Err Passes) refl h
 
-    first_past : (go_on : List ℕ → Found) → ((ys : List ℕ) → go_on ys ≡ message m → First ys m) → eqb type 0x03 ≡ false
-        → (v : Value) → Cuts xs v → passed_over go_on v ≡ message m → First (type ∷ xs) m
+    first_past : (go_on : List ℕ → Found) → ((ys : List ℕ) → go_on ys ≡ Ok m → First ys m) → eqb type 0x03 ≡ false
+        → (v : Value) → Cuts xs v → passed_over go_on v ≡ Ok m → First (type ∷ xs) m
     unfolding block
-    first_past go_on behind e (holds a b) c h =
+    first_past go_on behind e (Some (a, b)) c h =
         let f : First b m = behind b h in
         let joined : (zs : List ℕ) → (c.front ++ (a ++ f.front)) ++ zs ≡ c.front ++ (a ++ (f.front ++ zs)) = λ zs. simp append_assoc in
         record {
@@ -140,23 +141,23 @@ module _ (type : ℕ) (xs m : List ℕ) where
           whole = ap (λ (l : List ℕ). type ∷ l) (c.whole ∙ ap (λ (l : List ℕ). c.front ++ (a ++ l)) f.whole ∙ sym (joined (m ++ f.rest)));
           any = λ ys. ap (λ (l : List ℕ). walk (type ∷ l)) (joined (m ++ ys)) ∙ goes (type ∷ (c.front ++ (a ++ (f.front ++ (m ++ ys))))) ∙ rw (some, goes_on, e, c.any (f.front ++ (m ++ ys))) (f.any ys);
         }
-    first_past go_on behind e passes c h = no_message cut refl h
+    first_past go_on behind e None c h = no_message (Err Passes) refl h
 
-  first_block : (go_on : List ℕ → Found) → ((ys : List ℕ) → go_on ys ≡ message m → First ys m) → block go_on (type ∷ xs) ≡ message m → First (type ∷ xs) m
+  first_block : (go_on : List ℕ → Found) → ((ys : List ℕ) → go_on ys ≡ Ok m → First ys m) → block go_on (type ∷ xs) ≡ Ok m → First (type ∷ xs) m
   unfolding block
   first_block go_on behind =
-      let P : Found → Type 0 = λ f. f ≡ message m → First (type ∷ xs) m in
+      let P : Found → Type 0 = λ f. f ≡ Ok m → First (type ∷ xs) m in
       by P (eqb type 0x00) (λ e h. first_null e (behind xs h))
-      (λ some. by P (eqb type 0xFE) (λ e h. no_message nowhere refl h)
+      (λ some. by P (eqb type 0xFE) (λ e h. no_message (Err NoMessage) refl h)
       (λ goes_on. by P (eqb type 0x03) (λ e. first_here some goes_on e (value_of xs) (cuts xs)) (λ e. first_past some goes_on go_on behind e (value_of xs) (cuts xs))))
 
-first : (most : ℕ) (xs m : List ℕ) → blocks most xs ≡ message m → First xs m
+first : (most : ℕ) (xs m : List ℕ) → blocks most xs ≡ Ok m → First xs m
 unfolding blocks block
-first zero xs m h = no_message nowhere refl h
-first (suc most) [] m h = no_message nowhere refl h
+first zero xs m h = no_message (Err NoMessage) refl h
+first (suc most) [] m h = no_message (Err NoMessage) refl h
 first (suc most) (type ∷ xs) m h = first_block type xs m (blocks most) (λ ys. first most ys m) h
 
-pub stops : (xs m : List ℕ) → walk xs ≡ message m → StopsAt xs m
+pub stops : (xs m : List ℕ) → walk xs ≡ Ok m → StopsAt xs m
 unfolding walk
 stops xs m h = record { end = end; within = (omega arith, omega (arith, ap length cut_there, length-append (f.front ++ m) f.rest, l)); bytes = bytes; alone = alone }
   where
@@ -178,5 +179,5 @@ stops xs m h = record { end = end; within = (omega arith, omega (arith, ap lengt
     bytes : drop (end - length m) (take end xs) ≡ m
     bytes = let p : length f.front ≡ end - length m = omega arith in rw taken_there (drop_at f.front m (end - length m) p)
 
-    alone : (ys : List ℕ) → walk (take end xs ++ ys) ≡ message m
+    alone : (ys : List ℕ) → walk (take end xs ++ ys) ≡ Ok m
     alone ys = rw (taken_there, append_assoc) (f.any ys)

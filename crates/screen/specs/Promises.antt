@@ -1,8 +1,8 @@
 -- What follows from the definitions, for every image and every second: proofs/Kept.antt has the proofs. Assumes nothing.
-use Rattle.std.specs.Prelude.{◌≡◌, List, ◌++◌, ℕ, ◌+◌, ◌*◌, ◌-◌, ◌<◌, ◌≤◌, length, take, drop, get_or}
+use Rattle.std.specs.Prelude.{◌≡◌, List, ◌++◌, Ok, ℕ, ◌+◌, ◌*◌, ◌-◌, ◌<◌, ◌≤◌, length, take, drop, get_or}
 use Rattle.locks.specs.Locks.{lock_page}
 use Rattle.image.specs.Layout.{Fits}
-use Rattle.screen.specs.Blocks.{walk, message}
+use Rattle.screen.specs.Blocks.{walk}
 use Rattle.screen.specs.Reading.{verdict_at}
 use Rattle.screen.specs.Screen.{seen, answer_of}
 use Rattle.screen.specs.declared.reading.Verdict.TheVariants.{Live, Old, Ahead}
@@ -19,7 +19,7 @@ pub record StopsAt (xs m : List ℕ) : Type 0 where
   pub end : ℕ
   pub within : (length m ≤ end) × (end ≤ length xs)
   pub bytes : drop (end - length m) (take end xs) ≡ m
-  pub alone : (ys : List ℕ) → walk (take end xs ++ ys) ≡ message m
+  pub alone : (ys : List ℕ) → walk (take end xs ++ ys) ≡ Ok m
 
 -- the bytes of the user pages are those of page 04h to the page before the lock page
 pub record SameUserPages (n : ℕ) (img img' : List ℕ) : Type 0 where
@@ -32,6 +32,6 @@ pub record Promises : Type 0 where
   -- two answers that the contract allows for one input are equal
   pub alike : (r r' : ScreenAnswer) (img : List ℕ) (present : ℕ) → r ≡ answer_of (seen img present) → r' ≡ answer_of (seen img present) → r ≡ r'
   -- nothing behind the first block of type 03h matters
-  pub stops : (xs m : List ℕ) → walk xs ≡ message m → StopsAt xs m
+  pub stops : (xs m : List ℕ) → walk xs ≡ Ok m → StopsAt xs m
   -- and no byte outside the user pages
   pub elsewhere : (n : ℕ) (img img' : List ℕ) (present : ℕ) → SameUserPages n img img' → seen img present ≡ seen img' present

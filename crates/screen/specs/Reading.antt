@@ -1,7 +1,6 @@
 -- A reading and its age, after request Q-6. Assumes nothing.
-use Rattle.std.specs.Prelude.{List, Bool, cond, ◌&&◌, ℕ, ◌+◌, ◌*◌, ◌-◌, eqb, leb, ltb, length, get_or}
-use Rattle.image.specs.declared.layout.Four.{Four}
-use Rattle.image.specs.Layout.{four_at}
+use Rattle.std.specs.Prelude.{List, Bool, cond, ◌&&◌, ℕ, ◌-◌, eqb, leb, ltb, length, get_or}
+use Rattle.image.specs.Layout.{four_at, low_first_four}
 use Rattle.screen.specs.declared.reading.Verdict.{Verdict}
 use Rattle.screen.specs.declared.reading.Verdict.TheVariants.{Live, Old, Ahead}
 
@@ -9,11 +8,7 @@ use Rattle.screen.specs.declared.reading.Verdict.TheVariants.{Live, Old, Ahead}
 unfoldable pub is_reading : List ℕ → Bool
 is_reading m = eqb (length m) 11 && (eqb (get_or m 0 0) 0xD5 && (eqb (get_or m 1 0) 0x00 && eqb (get_or m 2 0) 0x08))
 
--- "each four bytes low first"
-unfoldable pub low_first_four : Four → ℕ
-low_first_four v = v.b0 + 256 * (v.b1 + 256 * (v.b2 + 256 * v.b3))
-
--- "seconds, then watts"
+-- "seconds, then watts, each four bytes low first"
 abbrev pub second_in : List ℕ → ℕ
 second_in m = low_first_four (four_at m 3)
 

@@ -1,8 +1,9 @@
 // The TLV blocks of the user pages, from the first one on.
-ghost use Rattle.std.specs.Prelude.{◌≡◌, ◌≤◌, length, drop};
-ghost use Rattle.screen.specs.Blocks.{counted, long_value, value_of, walk, spanned, SpanFits, found, StopFits};
+ghost use Rattle.std.specs.Prelude.{◌≡◌, ◌≤◌, length, IfSome};
+ghost use Rattle.screen.specs.Blocks.{counted, long_value, value_of, walk, cut_off, found};
 
-use basics::{low_first, to_usize};
+use crate::refusals::Refusal;
+use basics::low_first;
 
 const NULL: u8 = 0x00;
 
@@ -13,87 +14,65 @@ const TERMINATOR: u8 = 0xFE;
 // The length that is followed by two bytes, which have it.
 const LONG: u8 = 0xFF;
 
-// Where the bytes begin that a block's length counts, and where they end; or the length or its bytes pass the end.
-#[derive(Clone, Copy)]
-pub enum Span {
-    At(usize, usize),
-    Passes,
-}
-
-// Where the walk stops: at the first message, by its bytes; without one; at a block that passes the end.
-#[derive(Clone, Copy)]
-pub enum Stop {
-    Message(usize, usize),
-    Nowhere,
-    Cut,
-}
-
-// The n bytes from `from` on.
-fn counted(area: &[u8], from: usize, n: usize) -> Span
-    requires { from ≤ length area.now }
-    ensures span_fits { SpanFits from area.now result }
-    ensures area_value { spanned result area.now ≡ counted n (drop from area.now) }
+// The first n bytes, and those behind them.
+#[tactic(auto, using(crate::proofs::Values::cut_at))]
+fn counted(bytes: &[u8], n: usize) -> Option<(&[u8], &[u8])>
+    ensures parts { cut_off result ≡ counted n bytes.now }
+    ensures shorter { IfSome result (λ parts. length parts.1.now ≤ length bytes.now) }
 {
-    if n <= area.len() - from {
-        return Span::At(from, from + n);
-    }
-    Span::Passes
+    bytes.split_at_checked(n)
 }
 
-// The bytes that a length of two bytes at `at` counts.
-fn long_value(area: &[u8], at: usize) -> Span
-    requires { at ≤ length area.now }
-    ensures span_fits { SpanFits at area.now result }
-    ensures area_value { spanned result area.now ≡ long_value (drop at area.now) }
+// The bytes that a length of two bytes counts, and those behind them.
+fn long_value(bytes: &[u8]) -> Option<(&[u8], &[u8])>
+    ensures parts { cut_off result ≡ long_value bytes.now }
+    ensures shorter { IfSome result (λ parts. length parts.1.now ≤ length bytes.now) }
 {
-    if area.len() - at < 2 {
-        return Span::Passes;
-    }
-    let high = area[at];
-    let low = area[at + 1];
-    let n = low_first(low, high);
-    counted(area, at + 2, n as usize)
+    let [high, low, rest @ ..] = bytes else {
+        return None;
+    };
+    counted(rest, usize::from(low_first(*low, *high)))
 }
 
-// The bytes that the length at `at` counts.
-fn value_at(area: &[u8], at: usize) -> Span
-    requires { at ≤ length area.now }
-    ensures span_fits { SpanFits at area.now result }
-    ensures area_value { spanned result area.now ≡ value_of (drop at area.now) }
+// The bytes that the length in front counts, and those behind them.
+fn value_of(bytes: &[u8]) -> Option<(&[u8], &[u8])>
+    ensures parts { cut_off result ≡ value_of bytes.now }
+    ensures shorter { IfSome result (λ parts. length parts.1.now ≤ length bytes.now) }
 {
-    if at >= area.len() {
-        return Span::Passes;
+    match bytes {
+        [LONG, rest @ ..] => long_value(rest),
+        [n, rest @ ..] => counted(rest, usize::from(*n)),
+        [] => None,
     }
-    let n = area[at];
-    if n == LONG {
-        return long_value(area, at + 1);
+}
+
+// The bytes from the first one on that isn't 00h. A loop of its own is a tight one: empty user pages take half the instructions of a walk that
+// passes over each by itself.
+#[tactic(auto, using(std::proofs::lemmas::Grind::common_steps, crate::proofs::Values::walk_null))]
+fn past_nulls(bytes: &[u8]) -> &[u8]
+    ensures same { walk result.now ≡ walk bytes.now }
+    ensures shorter { length result.now ≤ length bytes.now }
+{
+    let mut rest = bytes;
+    while let [NULL, behind @ ..] = rest {
+        rest = behind;
     }
-    counted(area, at + 1, to_usize(n))
+    rest
 }
 
 // The first block of type 03h. Each block is looked at once, and none behind it.
-#[tactic(auto, using(crate::proofs::Spans::walking))]
-pub fn walk(area: &[u8]) -> Stop
-    ensures stop_fits { StopFits area.now result }
-    ensures area_value { found result area.now ≡ walk area.now }
+#[tactic(auto, using(std::proofs::lemmas::Grind::common_steps, crate::proofs::Values::walking))]
+pub fn walk(area: &[u8]) -> Result<&[u8], Refusal>
+    ensures { found result ≡ walk area.now }
 {
-    let mut at = 0;
-    while at < area.len() {
-        let kind = area[at];
-        at += 1;
-        if kind == TERMINATOR {
-            return Stop::Nowhere;
-        }
-        if kind == NULL {
-            continue;
-        }
-        let Span::At(from, to) = value_at(area, at) else {
-            return Stop::Cut;
+    let mut rest = area;
+    while let [kind, behind @ ..] = rest {
+        rest = match *kind {
+            NULL => past_nulls(behind),
+            TERMINATOR => break,
+            MESSAGE => return Ok(value_of(behind).ok_or(Refusal::Passes)?.0),
+            _ => value_of(behind).ok_or(Refusal::Passes)?.1,
         };
-        if kind == MESSAGE {
-            return Stop::Message(from, to);
-        }
-        at = to;
     }
-    Stop::Nowhere
+    Err(Refusal::NoMessage)
 }

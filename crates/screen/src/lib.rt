@@ -4,5 +4,8 @@
 mod blocks;
 mod call;
 mod reading;
+mod refusals;
 
-pub use call::{ScreenAnswer, screen};
+pub use call::{ScreenAnswer, Shown, screen};
+pub use reading::Verdict;
+pub use refusals::Refusal;

@@ -1,16 +1,16 @@
 -- Answers laid over a buffer, and what the answers without an image show. Assumes nothing.
 use mathlib.Core.Path.{◌≡◌, refl, ap, ◌∙◌}
 use mathlib.Core.List.{List, [], ◌∷◌, ◌++◌}
-use Prim.Native.Nat.{ℕ, zero, suc, ◌+◌, ◌*◌, ◌/◌, ◌%◌, ◌^◌, ◌≤◌, ◌<◌}
+use Prim.Native.Nat.{ℕ, zero, suc, ◌+◌, ◌/◌, ◌%◌, ◌^◌, ◌≤◌, ◌<◌}
 use native.Mathlib.Nat.{not-suc-le-zero, le_of_suc-le-suc, pow-suc, div-div-eq-div-mul, mod-eq_of_lt}
 use native.Mathlib.Numerals.{add-one}
 use native.Mathlib.Omega.{arith}
 use lib.ListN.{length, take, drop, set, length-append}
-use lib.Seq.{sets, sets-eq, set_split, take_at, drop-drop, drop-append-add, length-take-le}
+use lib.Seq.{sets, sets-eq, take_at, drop-drop, drop-append-add, length-take-le}
 use Rattle.image.proofs.Stored.{length_store}
 use Rattle.crc_a.specs.CrcA.{crc_a, sent, with_crc}
 use Rattle.tag.specs.State.{moved, back_to_wait}
-use Rattle.tag.specs.Outcome.{build, byte_of, low_bytes, Reply, plain, silence, nibble, bytes, bits_of, answer_of, over, Effect, keep, put, apply, does, Did, lost, ack, nak_after, nak, says, Acks, Says}
+use Rattle.tag.specs.Outcome.{build, byte_of, low_bytes, Reply, plain, silence, nibble, bytes, bits_of, answer_of, over, Effect, keep, put, apply, does, Did, lost, nak_after, nak, says, Says}
 use Rattle.tag.specs.declared.state.State.{State}
 use Rattle.tag.specs.declared.state.Tag.{Tag}
 use Rattle.tag.specs.declared.outcome.Step.{Step}
@@ -74,23 +74,9 @@ Silent t r = (img before : List ℕ) → Did (does silence keep t) r img img bef
 abbrev pub Naks : Tag → ℕ → Step → List ℕ → List ℕ → Type 0
 Naks t v r before after = (img : List ℕ) → Did (nak t v) r img img before after
 
-pub silent_done : (t : Tag) → Silent t (record { bits = 0; tag = t })
-unfolding apply bits_of answer_of over
-silent_done t img before = record { image = refl; bits = refl; tag = refl; answer = refl }
-
 pub lost_done : (t t' : Tag) (s : State) (r : Step) → s ≡ back_to_wait t.state → t' ≡ moved t s → Silent t' r → (img before : List ℕ) → Did (lost t) r img img before before
 unfolding lost
 lost_done t t' s r e f h img before = rw (← e, ← f) (h img before)
-
-pub ack_done : (t : Tag) (before : List ℕ) → 1 ≤ length before → Acks t (record { bits = 4; tag = t }) before (set before 0 0xA)
-unfolding ack bits_of answer_of over
-ack_done t before l img e = record { image = refl; bits = refl; tag = refl; answer = set_split before 0 0xA l }
-
-pub nak_done : (t t' : Tag) (s : State) (v : ℕ) (before : List ℕ) → s ≡ back_to_wait t.state → t' ≡ moved t s → (1 ≤ length before) × (v < 16)
-    → Naks t v (record { bits = 4; tag = t' }) before (set before 0 v)
-unfolding nak_after apply bits_of answer_of over
-nak_done t t' s v before e f l img =
-    record { image = refl; bits = refl; tag = f ∙ rw e; answer = (let q : v % 16 ≡ v = omega arith in rw q (set_split before 0 v l.0)) }
 
 -- a NAK after an effect on the image
 pub nak_after_lem : (e : Effect) (t : Tag) (v : ℕ) (r : Step) (img image' before after : List ℕ) → Naks t v r before after → image' ≡ apply img e
@@ -128,10 +114,6 @@ crc_behind buffer after n l e =
     let whole : length (take n buffer ++ (c % 256 ∷ c / 256 ∷ [])) ≡ n + 2 =
     length-append (take n buffer) (c % 256 ∷ c / 256 ∷ []) ∙ ap (λ (k : ℕ). k + 2) (length-take-le n buffer (omega arith)) in
     rw whole (e ∙ sets-eq (c % 256 ∷ c / 256 ∷ []) buffer n l.0)
-
-pub says_done : (t : Tag) (buffer after : List ℕ) (n : ℕ) → (n + 2 ≤ length buffer) × (n ≤ 1022) → after ≡ sets buffer n (sent (crc_a (take n buffer)))
-    → Says n t (record { bits = 8 * (n + 2); tag = t }) buffer after
-says_done t buffer after n l e = record { bits = refl; tag = refl; answer = crc_behind buffer after n l e }
 
 -- data: bytes were laid over the buffer, their CRC_A was stored behind them, and the image is what the effect makes of it
 pub said : (bs : List ℕ) (e : Effect) (t : Tag) (r : Step) (n : ℕ) (img image' before mid after : List ℕ) → length bs ≡ n → mid ≡ over bs before

@@ -16,6 +16,7 @@ pub struct Step {
 }
 
 // No answer, whatever the image and the buffer are.
+#[tactic(auto, unfolding(crate::specs::Outcome::apply, crate::specs::Outcome::bits_of, crate::specs::Outcome::answer_of, crate::specs::Outcome::over))]
 pub fn silent(tag: Tag) -> Step
     ensures { (img before : List ℕ) → Did (does silence keep tag) result img img before before }
 {
@@ -26,11 +27,11 @@ pub fn silent(tag: Tag) -> Step
 pub fn lost(tag: Tag) -> Step
     ensures { (img before : List ℕ) → Did (lost tag) result img img before before }
 {
-    let state = tag.state;
-    silent(tag.moved(state.back_to_wait()))
+    silent(tag.moved(tag.state.back_to_wait()))
 }
 
 // An ACK, whatever it did to the image, which isn't lent.
+#[tactic(auto, unfolding(crate::specs::Outcome::ack, crate::specs::Outcome::apply, crate::specs::Outcome::bits_of, crate::specs::Outcome::answer_of, crate::specs::Outcome::over))]
 pub fn ack(answer: &mut [u8], tag: Tag) -> Step
     requires { 1 ≤ length answer.old }
     ensures { Acks tag result answer.old answer.new }
@@ -40,19 +41,20 @@ pub fn ack(answer: &mut [u8], tag: Tag) -> Step
 }
 
 // A NAK of this value, and back to the wait state. The image, which isn't lent, is as it was.
+#[tactic(auto, unfolding(crate::specs::Outcome::nak_after, crate::specs::Outcome::apply, crate::specs::Outcome::bits_of, crate::specs::Outcome::answer_of, crate::specs::Outcome::over))]
 pub fn nak(answer: &mut [u8], tag: Tag, value: u8) -> Step
     requires { (1 ≤ length answer.old) × (value < 16) }
     ensures { (img : List ℕ) → Did (nak tag value) result img img answer.old answer.new }
 {
     answer[0] = value;
-    let state = tag.state;
     Step {
         bits: 4,
-        tag: tag.moved(state.back_to_wait()),
+        tag: tag.moved(tag.state.back_to_wait()),
     }
 }
 
 // Bytes go into the answer, from its start on.
+#[tactic(auto, unfolding(crate::specs::Outcome::over))]
 pub fn lay(answer: &mut [u8], from: &[u8])
     requires { length from.now ≤ length answer.old }
     ensures { answer.new ≡ over from.now answer.old }
@@ -60,7 +62,8 @@ pub fn lay(answer: &mut [u8], from: &[u8])
     copy(from, answer);
 }
 
-// Data: the n bytes that stand at the answer's start, and their CRC_A behind them.
+// Data: the n bytes that stand at the answer's start, and their CRC_A behind them: the buffer is the caller's whole one.
+#[tactic(auto, using(crate::proofs::Laws::crc_behind))]
 pub fn says(answer: &mut [u8], n: usize, tag: Tag) -> Step
     requires { (n + 2 ≤ length answer.old) × (n ≤ 1022) }
     ensures { Says n tag result answer.old answer.new }
@@ -72,17 +75,16 @@ pub fn says(answer: &mut [u8], n: usize, tag: Tag) -> Step
     }
 }
 
-// The low bytes of a number go into the answer, from its start on.
+// The low bytes of a number go into the answer, from its start on. One by one: copied as a slice of so many bytes they cost a call of memcpy, and the
+// library makes no other.
 fn lay_number(answer: &mut [u8], v: u64, count: usize)
     requires { (count ≤ 8) × (count ≤ length answer.old) }
     ensures { answer.new ≡ over (low_bytes count v) answer.old }
 {
     let mut rest = v;
-    let mut i: usize = 0;
-    while i < count {
+    for i in 0..count {
         answer[i] = (rest % 256) as u8;
-        rest = rest / 256;
-        i += 1;
+        rest /= 256;
     }
 }
 

@@ -1,10 +1,11 @@
 // The record that a board keeps between two calls: numbers, and what they mean.
 ghost use Rattle.std.specs.Prelude.{◌≡◌};
-ghost use Rattle.tag.specs.Record.{wait_of, state_of, meant, tag_of, flag_of, wait_number, record_of};
+ghost use Rattle.tag.specs.Record.{wait_of, state_of, meant, tag_of, wait_number, record_of};
 
 use crate::state::{State, Tag, Wait};
 
-// What a board keeps between two calls. Any four numbers may be handed back: those without a meaning count as after field loss.
+// What a board keeps between two calls, in C too, so that it is numbers. Any four may be handed back: those without a meaning count as after
+// field loss.
 #[repr(C)]
 #[derive(Clone, Copy)]
 pub struct TagRecord {
@@ -18,15 +19,30 @@ pub struct TagRecord {
     pub answered: u8,
 }
 
-fn wait_of(number: u8) -> Wait
-    ensures { result ≡ wait_of number }
-{
-    match number {
-        0 => Wait::ToIdle,
-        _ => Wait::ToHalt,
+impl From<u8> for Wait {
+    ghost from_gives = { λ number wait. wait ≡ wait_of number };
+
+    #[tactic(auto, unfolding(crate::specs::Record::wait_of))]
+    fn from(number: u8) -> Wait {
+        match number {
+            0 => Wait::ToIdle,
+            _ => Wait::ToHalt,
+        }
     }
 }
 
+impl From<Wait> for u8 {
+    ghost from_gives = { λ wait number. number ≡ wait_number wait };
+
+    fn from(wait: Wait) -> u8 {
+        match wait {
+            Wait::ToIdle => 0,
+            Wait::ToHalt => 1,
+        }
+    }
+}
+
+#[tactic(auto, unfolding(crate::specs::Record::state_of))]
 fn state_of(number: u8, wait: Wait, authenticated: bool) -> State
     ensures { result ≡ state_of number wait authenticated }
 {
@@ -39,71 +55,48 @@ fn state_of(number: u8, wait: Wait, authenticated: bool) -> State
     }
 }
 
+#[tactic(auto, unfolding(crate::specs::Record::meant))]
 fn is_meant(rec: TagRecord) -> bool
     ensures { result ≡ meant rec }
 {
-    if rec.state < 5 {
-        if rec.wait < 2 {
-            if rec.authenticated < 2 {
-                return rec.answered < 2;
-            }
-        }
-    }
-    false
+    rec.state < 5 && rec.wait < 2 && rec.authenticated < 2 && rec.answered < 2
 }
 
 // The meaning of a record.
-pub fn tag_of(rec: TagRecord) -> Tag
-    ensures { result ≡ tag_of rec }
-{
-    if is_meant(rec) {
-        let state = state_of(rec.state, wait_of(rec.wait), rec.authenticated == 1);
-        Tag {
-            state,
-            answered: rec.answered == 1,
+impl From<TagRecord> for Tag {
+    ghost from_gives = { λ rec tag. tag ≡ tag_of rec };
+
+    #[tactic(auto, unfolding(crate::specs::Record::tag_of))]
+    fn from(rec: TagRecord) -> Tag {
+        if is_meant(rec) {
+            Tag {
+                state: state_of(rec.state, Wait::from(rec.wait), rec.authenticated == 1),
+                answered: rec.answered == 1,
+            }
+        } else {
+            Tag::field_off()
         }
-    } else {
-        Tag::field_off()
-    }
-}
-
-fn flag(b: bool) -> u8
-    ensures { result ≡ flag_of b }
-{
-    if b { 1 } else { 0 }
-}
-
-fn wait_number(wait: Wait) -> u8
-    ensures { result ≡ wait_number wait }
-{
-    match wait {
-        Wait::ToIdle => 0,
-        Wait::ToHalt => 1,
-    }
-}
-
-fn numbers(state: u8, wait: u8, authenticated: u8, answered: u8) -> TagRecord
-    ensures { result ≡ record { state = state; wait = wait; authenticated = authenticated; answered = answered } }
-{
-    TagRecord {
-        state,
-        wait,
-        authenticated,
-        answered,
     }
 }
 
 // The record of a tag.
-pub fn record_of(tag: Tag) -> TagRecord
-    ensures { result ≡ record_of tag }
-{
-    let answered = flag(tag.answered);
-    let state = tag.state;
-    match state {
-        State::Idle => numbers(0, 0, 0, answered),
-        State::Halt => numbers(1, 0, 0, answered),
-        State::Ready1(w) => numbers(2, wait_number(w), 0, answered),
-        State::Ready2(w) => numbers(3, wait_number(w), 0, answered),
-        State::Active(w, a) => numbers(4, wait_number(w), flag(a), answered),
+impl From<Tag> for TagRecord {
+    ghost from_gives = { λ tag rec. rec ≡ record_of tag };
+
+    #[tactic(auto, unfolding(crate::specs::Record::record_of, crate::specs::Record::flag_of))]
+    fn from(tag: Tag) -> TagRecord {
+        let (state, wait, authenticated) = match tag.state {
+            State::Idle => (0, Wait::ToIdle, false),
+            State::Halt => (1, Wait::ToIdle, false),
+            State::Ready1(wait) => (2, wait, false),
+            State::Ready2(wait) => (3, wait, false),
+            State::Active(wait, authenticated) => (4, wait, authenticated),
+        };
+        TagRecord {
+            state,
+            wait: u8::from(wait),
+            authenticated: u8::from(authenticated),
+            answered: u8::from(tag.answered),
+        }
     }
 }

@@ -36,9 +36,7 @@ impl State {
         match self {
             State::Idle => State::Ready1(Wait::ToIdle),
             State::Halt => State::Ready1(Wait::ToHalt),
-            State::Ready1(w) => State::Ready1(w),
-            State::Ready2(w) => State::Ready2(w),
-            State::Active(w, a) => State::Active(w, a),
+            State::Ready1(_) | State::Ready2(_) | State::Active(_, _) => self,
         }
     }
 
@@ -47,11 +45,9 @@ impl State {
         ensures { result ≡ selected self }
     {
         match self {
-            State::Idle => State::Idle,
-            State::Halt => State::Halt,
             State::Ready1(w) => State::Ready2(w),
             State::Ready2(w) => State::Active(w, false),
-            State::Active(w, a) => State::Active(w, a),
+            State::Idle | State::Halt | State::Active(_, _) => self,
         }
     }
 
@@ -60,13 +56,12 @@ impl State {
         ensures { result ≡ activated self }
     {
         match self {
-            State::Idle => State::Idle,
-            State::Halt => State::Halt,
             State::Ready1(w) | State::Ready2(w) => State::Active(w, false),
-            State::Active(w, a) => State::Active(w, a),
+            State::Idle | State::Halt | State::Active(_, _) => self,
         }
     }
 
+    #[tactic(auto, unfolding(crate::specs::State::halted))]
     pub fn halted(self) -> State
         ensures { result ≡ halted self }
     {
@@ -77,11 +72,8 @@ impl State {
         ensures { result ≡ back_to_wait self }
     {
         match self {
-            State::Idle => State::Idle,
-            State::Halt => State::Halt,
-            State::Ready1(w) => wait_state(w),
-            State::Ready2(w) => wait_state(w),
-            State::Active(w, _) => wait_state(w),
+            State::Idle | State::Halt => self,
+            State::Ready1(w) | State::Ready2(w) | State::Active(w, _) => wait_state(w),
         }
     }
 
@@ -90,11 +82,8 @@ impl State {
         ensures { result ≡ granted self }
     {
         match self {
-            State::Idle => State::Idle,
-            State::Halt => State::Halt,
-            State::Ready1(w) => State::Ready1(w),
-            State::Ready2(w) => State::Ready2(w),
             State::Active(w, _) => State::Active(w, true),
+            State::Idle | State::Halt | State::Ready1(_) | State::Ready2(_) => self,
         }
     }
 }
@@ -107,6 +96,7 @@ pub struct Tag {
 }
 
 impl Tag {
+    #[tactic(auto, unfolding(crate::specs::State::field_off))]
     pub fn field_off() -> Tag
         ensures { result ≡ field_off }
     {
@@ -123,35 +113,29 @@ impl Tag {
         Tag::field_off()
     }
 
+    #[tactic(auto, unfolding(crate::specs::State::moved))]
     pub fn moved(self, state: State) -> Tag
         ensures { result ≡ moved self state }
     {
-        Tag {
-            state,
-            answered: self.answered,
-        }
+        Tag { state, ..self }
     }
 
     pub fn authenticated(self) -> bool
         ensures { result ≡ authenticated self }
     {
-        let state = self.state;
-        match state {
-            State::Idle => false,
-            State::Halt => false,
-            State::Ready1(_) => false,
-            State::Ready2(_) => false,
-            State::Active(_, a) => a,
+        match self.state {
+            State::Idle | State::Halt | State::Ready1(_) | State::Ready2(_) => false,
+            State::Active(_, authenticated) => authenticated,
         }
     }
 
+    #[tactic(auto, unfolding(crate::specs::State::answering))]
     pub fn answering(self) -> Tag
         ensures { result ≡ answering self }
     {
-        let state = self.state;
         Tag {
-            state,
             answered: true,
+            ..self
         }
     }
 }

@@ -1,15 +1,15 @@
 -- Document 01's examples of the two wires, and Q-1's cases, computed. Assumes nothing.
 use Rattle.std.proofs.Common.{◌≡◌, ℕ, ◌*◌, [], ◌∷◌, length, refl, ap, ◌∙◌, arith, lt-ltb}
+use Rattle.std.specs.Prelude.{Some}
 use Rattle.image.specs.Layout.{size_of}
-use Rattle.image.specs.declared.layout.Size.TheVariants.{Pages}
 use Rattle.image.proofs.Laws.{fits}
 use Rattle.two_wire.specs.Span.{within, stores, following}
-use Rattle.two_wire.specs.Region.{Lent, both, region_of, byte_at}
+use Rattle.two_wire.specs.Region.{Lent, both, Right, region_of, byte_at}
 use Rattle.two_wire.specs.Record.{phase_of, holding, entered, one_more, gathers, at_rest}
 use Rattle.two_wire.specs.Gathered.{landed_at, landed_to, landed, counter_after}
 use Rattle.two_wire.specs.Event.{after, device, addressed, sent, stopped, by_event, by_memory, by_size, does}
 use Rattle.two_wire.specs.Run.{gathers_all, Wires, answer_to, after_event, after_bytes, after_read_code, after_reads, answers_to}
-use Rattle.two_wire.specs.Promises.{onward, Right}
+use Rattle.two_wire.specs.Promises.{onward}
 use Rattle.two_wire.specs.Examples.{blank, fresh, ReadsRound, WireExamples, MemoryExamples}
 use Rattle.two_wire.specs.declared.record.Phase.TheVariants.{Writing}
 use Rattle.two_wire.proofs.Outcome.{refused_event_lem}
@@ -26,7 +26,7 @@ the_examples = record {
   dropped = λ b mem e. (wires.writes 45 (fresh 45 mem) 0x40 0x10 (b ∷ []) (record { size = refl; whole = e }) refl).dropped;
 }
 
-module _ (n : ℕ) (size : size_of (length (blank n)) ≡ Pages n) where
+module _ (n : ℕ) (size : size_of (length (blank n)) ≡ Some n) where
   round : ReadsRound n
   unfolding within following region_of byte_at holding after_reads answers_to onward
   round mem e =

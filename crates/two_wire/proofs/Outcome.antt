@@ -1,20 +1,22 @@
 -- The outcome of an event is one, what it touches, and that a refused call leaves everything. Assumes nothing.
 use Rattle.std.proofs.Common.{◌≡◌, ℕ, ◌<◌, eqb, ◌≢◌, length, get_or, sym, refl, ◌∙◌, ap₂, arith, ne_eqb, eqb-true}
+use Rattle.std.specs.Prelude.{Some, None, Option, Result}
 use mathlib.Core.Path.{subst⁻¹}
 use borrow.Author.Tests.{eqb-false}
 use Rattle.basics.specs.Bytes.{low_first}
 use Rattle.basics.proofs.Choice.{never, split, by}
 use Rattle.image.specs.Layout.{size_of}
-use Rattle.image.specs.declared.layout.Size.{Size}
-use Rattle.image.specs.declared.layout.Size.TheVariants.{Pages, Unknown}
 use Rattle.two_wire.specs.Window.{window, page_of}
 use Rattle.two_wire.specs.Region.{Lent, memory_length, memory, bytes_in, region_of, in_either}
 use Rattle.two_wire.specs.Record.{phase_of, is_in}
-use Rattle.two_wire.specs.Answer.{answer_of}
+use Rattle.two_wire.specs.Answer.{returned}
 use Rattle.two_wire.specs.Gathered.{stored_in}
-use Rattle.two_wire.specs.Event.{start, stop, byte_sent, byte_read_ack, byte_read_last, write_code, read_code, Effect, keep, land, Does, after, started, device, addressed, sent_in, sent, stopped, read_on, read, refuses, by_event, by_memory, by_size, does}
+use Rattle.two_wire.specs.Event.{start, stop, byte_sent, byte_read_ack, byte_read_last, write_code, read_code, Effect, keep, land, Does, after, started, device, addressed, sent_in, sent, stopped, read_on, read, refuses, by_name, by_event, by_memory, by_size, does}
 use Rattle.two_wire.specs.Promises.{OneOutcome, address_of, Touches, OneRegion}
 use Rattle.two_wire.specs.declared.answer.BusAnswer.{BusAnswer}
+use Rattle.two_wire.specs.declared.answer.Refusal.{Refusal}
+use Rattle.two_wire.specs.declared.answer.Refusal.TheVariants.{WrongImage, WrongEvent, WrongMemory}
+use Rattle.two_wire.specs.declared.event.Event.{Event}
 use Rattle.two_wire.specs.declared.record.BusRecord.{BusRecord}
 use Rattle.two_wire.specs.declared.record.Phase.{Phase}
 use Rattle.two_wire.specs.declared.record.Phase.TheVariants.{Rest, Device, High, Low, Writing, Reading, Deaf}
@@ -32,28 +34,29 @@ one_outcome o s s' l a a' d d' =
 -- ---- the ways of an event
 
 module _ (l : Lent) (r : BusRecord) (event b : ℕ) (P : Does → Type 0) where
-  by_event_lem : (n : ℕ) → P (started r) → (event ≡ stop → P (stopped n r)) → P (sent n r b) → ((p : Phase) → P (read p n l r)) → P (refuses 4 r)
+  by_event_lem : (n : ℕ) → P (started r) → (event ≡ stop → P (stopped n r)) → P (sent n r b) → ((p : Phase) → P (read p n l r)) → P (refuses WrongEvent r)
       → P (by_event n l r event b)
   unfolding by_event
   by_event_lem n p q s t u =
-      by P (eqb event start) (λ _. p) (λ _.
-      by P (eqb event stop) (λ e. q (eqb-true event stop e)) (λ _.
-      by P (eqb event byte_sent) (λ _. s) (λ _.
-      by P (eqb event byte_read_ack) (λ _. t Reading) (λ _.
-      by P (eqb event byte_read_last) (λ _. t Deaf) (λ _. u)))))
+      let Q : Result Event Refusal → Type 0 = λ e. P (by_name n l r e b) in
+      by Q (eqb event start) (λ _. p) (λ _.
+      by Q (eqb event stop) (λ e. q (eqb-true event stop e)) (λ _.
+      by Q (eqb event byte_sent) (λ _. s) (λ _.
+      by Q (eqb event byte_read_ack) (λ _. t Reading) (λ _.
+      by Q (eqb event byte_read_last) (λ _. t Deaf) (λ _. u)))))
 
-  by_size_lem : P (refuses 1 r) → P (refuses 5 r) → ((n : ℕ) → P (by_event n l r event b)) → P (does l r event b)
+  by_size_lem : P (refuses WrongImage r) → P (refuses WrongMemory r) → ((n : ℕ) → P (by_event n l r event b)) → P (does l r event b)
   unfolding does by_size by_memory
   by_size_lem u v p = of (size_of (length l.image))
     where
-      of : (size : Size) → P (by_size size l r event b)
-      of Unknown = u
-      of (Pages n) = by P (eqb (length l.memory) memory_length) (λ _. p n) (λ _. v)
+      of : (size : Option ℕ) → P (by_size size l r event b)
+      of None = u
+      of (Some n) = by P (eqb (length l.memory) memory_length) (λ _. p n) (λ _. v)
 
 -- ---- what no event but a stop stores, and which calls are refused
 
 abbrev Taken : Does → Type 0
-Taken o = (answer_of o.reply).refused ≡ 0
+Taken o = (returned o.reply).refused ≡ 0
 
 abbrev Keeps : Does → Type 0
 Keeps o = o.effect ≡ keep
@@ -89,7 +92,7 @@ module _ (l : Lent) (r : BusRecord) (event b : ℕ) where
 
   -- "A refused call returns its number, no answer, the records it was given, and every buffer untouched."
   abbrev Left : Does → Type 0
-  Left o = ((answer_of o.reply).refused ≡ 0 → ⊥) → (o.bus ≡ r) × (after l o.effect ≡ l)
+  Left o = ((returned o.reply).refused ≡ 0 → ⊥) → (o.bus ≡ r) × (after l o.effect ≡ l)
 
   taken : (o : Does) → Taken o → Left o
   taken o t ne = absurd (ne t)
@@ -101,18 +104,8 @@ module _ (l : Lent) (r : BusRecord) (event b : ℕ) where
       by_event_lem l r event b Left n (taken (started r) refl) (λ _. taken (stopped n r) (stop_taken n r)) (taken (sent n r b) (sent_mild n r (phase_of r.phase) b).0)
       (λ p. taken (read p n l r) (read_mild n r l p).0) (λ _. (refl, refl)))
 
-  -- "1: image length isn't 184, 544 or 928"
-  pub refused_length : size_of (length l.image) ≡ Unknown → does l r event b ≡ refuses 1 r
-  unfolding does by_size
-  refused_length e = rw e
-
-  -- "5, bus call with a data memory that isn't 16,384 bytes, after 1 and before 4"
-  pub refused_memory_lem : (n : ℕ) → size_of (length l.image) ≡ Pages n → length l.memory ≢ memory_length → does l r event b ≡ refuses 5 r
-  unfolding does by_size by_memory
-  refused_memory_lem n e m = rw (e, ne_eqb (length l.memory) memory_length m)
-
   -- "4: bus call: event isn't one of the five"
-  pub refused_event_lem : (n : ℕ) → size_of (length l.image) ≡ Pages n → length l.memory ≡ memory_length → 4 < event → does l r event b ≡ refuses 4 r
+  pub refused_event_lem : (n : ℕ) → size_of (length l.image) ≡ Some n → length l.memory ≡ memory_length → 4 < event → does l r event b ≡ refuses WrongEvent r
   unfolding does by_size by_memory by_event
   refused_event_lem n e m k =
       rw (e, m, ne_eqb event 0 (λ q. omega arith), ne_eqb event 1 (λ q. omega arith), ne_eqb event 2 (λ q. omega arith), ne_eqb event 3 (λ q. omega arith), ne_eqb event 4 (λ q. omega arith))

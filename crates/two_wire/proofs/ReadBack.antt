@@ -1,11 +1,11 @@
 -- What a write over the two wires comes to, that it is read back over them, and what sequential reads give. Assumes nothing.
 use Rattle.std.proofs.Common.{◌≡◌, ℕ, zero, suc, ◌+◌, ◌-◌, ◌*◌, ◌/◌, ◌%◌, ◌<◌, ◌≤◌, min, true, false, eqb, List, [], ◌∷◌, map, length, get_or, sym, refl, ap, ◌∙◌, subst, ap₂, arith, lt-ltb, eq-eqb, ne_eqb, le-leb}
+use Rattle.std.specs.Prelude.{Some}
 use borrow.Author.Tests.{eqb-false}
 use Rattle.basics.specs.Bytes.{low_first}
 use Rattle.basics.proofs.Choice.{by}
 use Rattle.image.specs.Layout.{size_of, byte}
 use Rattle.image.specs.Shown.{shown}
-use Rattle.image.specs.declared.layout.Size.TheVariants.{Pages}
 use Rattle.image.proofs.Laws.{fits}
 use Rattle.two_wire.specs.Span.{offset, within, stores, following}
 use Rattle.two_wire.specs.Window.{first, window, page_of, place_after}
@@ -69,7 +69,7 @@ stored_shown n a l g e h = rw e (plain_shown g.buffer n l (offset g.span a) h)
 
 -- ---- what events leave
 
-module _ (n : ℕ) (l : Lent) (size : size_of (length l.image) ≡ Pages n) (whole : length l.memory ≡ memory_length) where
+module _ (n : ℕ) (l : Lent) (size : size_of (length l.image) ≡ Some n) (whole : length l.memory ≡ memory_length) where
   -- A0h and an address of either region
   pub begun : (r : BusRecord) (high low : ℕ) → in_either n (low_first low high) ≡ true → after_write (wires l r) high low [] ≡ wires l (entered r Writing (low_first low high))
   unfolding after_bytes after_event does by_size by_memory by_event sent device addressed after phase_of holding
@@ -212,7 +212,7 @@ rolled a i = omega arith
 rolled_from : (a i : ℕ) → (a + i) % 64 ≡ (a + 0 + i) % 64
 rolled_from a i = omega arith
 
-module _ (n : ℕ) (l : Lent) (size : size_of (length l.image) ≡ Pages n) (whole : length l.memory ≡ memory_length) (r : BusRecord) (high low : ℕ) (bs : List ℕ) (w : in_either n (low_first low high) ≡ true) where
+module _ (n : ℕ) (l : Lent) (size : size_of (length l.image) ≡ Some n) (whole : length l.memory ≡ memory_length) (r : BusRecord) (high low : ℕ) (bs : List ℕ) (w : in_either n (low_first low high) ≡ true) where
   abbrev a : ℕ
   a = low_first low high
 
@@ -313,7 +313,7 @@ module _ (n : ℕ) (l : Lent) (size : size_of (length l.image) ≡ Pages n) (who
       → answers_to (after_read_code (after_write (after_stop (after_write (wires l r) high low bs)) high low [])) (length bs) ≡ map (λ b. answer_of (Byte b)) bs
   unfolding holding stores
   read_back from page below =
-      let size' : size_of (length stored.image) ≡ Pages n = ap size_of (length_stored s wrote_to l k Image) ∙ size in
+      let size' : size_of (length stored.image) ≡ Some n = ap size_of (length_stored s wrote_to l k Image) ∙ size in
       let whole' : length stored.memory ≡ memory_length = length_stored s wrote_to l k Memory ∙ whole in
       let rested : BusRecord = entered r Rest (counter_after wrote_to) in
       let short = plain_short in

@@ -9,6 +9,7 @@ use Rattle.two_wire.specs.declared.answer.BusAnswer.{BusAnswer}
 use Rattle.two_wire.specs.declared.record.BusRecord.{BusRecord}
 use Rattle.two_wire.specs.declared.record.Phase.TheVariants.{Rest}
 use Rattle.two_wire.specs.declared.answer.Reply.TheVariants.{Acknowledged, Declined, Byte}
+use Rattle.two_wire.specs.declared.answer.Refusal.TheVariants.{WrongImage, WrongEvent, WrongMemory}
 use Rattle.two_wire.specs.declared.region.Buffer.TheVariants.{Image, Memory}
 
 -- an image of n pages, all zeros
@@ -62,5 +63,5 @@ pub record MemoryExamples (n : ℕ) : Type 0 where
   pub acknowledged : (mem : List ℕ) → Whole mem
       → (answer_to_low n mem 0x00 0x00 ≡ answer_of Acknowledged) × (answer_to_low n mem 0x3F 0xFF ≡ answer_of Acknowledged) × (answer_to_low n mem 0x40 0x00 ≡ answer_of Acknowledged)
   -- "5, .. after 1 and before 4": of an event that isn't one of the five, where image and data memory are wrong too, the data memory alone, neither
-  pub order : (r : BusRecord) (b : ℕ) → (does (both [] []) r 9 b ≡ refuses 1 r) × (does (both (blank n) []) r 9 b ≡ refuses 5 r)
-      × ((mem : List ℕ) → Whole mem → does (both (blank n) mem) r 9 b ≡ refuses 4 r)
+  pub order : (r : BusRecord) (b : ℕ) → (does (both [] []) r 9 b ≡ refuses WrongImage r) × (does (both (blank n) []) r 9 b ≡ refuses WrongMemory r)
+      × ((mem : List ℕ) → Whole mem → does (both (blank n) mem) r 9 b ≡ refuses WrongEvent r)

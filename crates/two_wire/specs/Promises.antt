@@ -3,9 +3,7 @@ use Rattle.std.specs.Prelude.{◌≡◌, ℕ, zero, suc, ◌+◌, ◌-◌, ◌*�
 use Rattle.basics.specs.Bytes.{low_first}
 use Rattle.two_wire.specs.Span.{offset, within, stores, following}
 use Rattle.two_wire.specs.Window.{first, places, page_of, place_of, place_after}
-use Rattle.image.specs.Layout.{size_of}
-use Rattle.image.specs.declared.layout.Size.TheVariants.{Pages}
-use Rattle.two_wire.specs.Region.{Lent, memory_length, memory, bytes_in, region_of, in_either, byte_at}
+use Rattle.two_wire.specs.Region.{Lent, memory_length, Right, memory, bytes_in, region_of, in_either, byte_at}
 use Rattle.two_wire.specs.Record.{entered}
 use Rattle.two_wire.specs.Answer.{answer_of}
 use Rattle.two_wire.specs.Event.{stop, byte_read_ack, Does, after, does, Did}
@@ -61,11 +59,6 @@ bytes_at n a l = bytes_in (region_of n a).buffer l
 abbrev pub plain : ℕ → Buffer → ℕ
 plain n Image = 4 * (n - 2)
 plain n Memory = memory_length
-
--- what is lent is right, for an image of n pages
-pub record Right (n : ℕ) (l : Lent) : Type 0 where
-  pub size : size_of (length l.image) ≡ Pages n
-  pub whole : length l.memory ≡ memory_length
 
 -- A write of bytes to an address of either region, h its high byte and l its low one, whatever was on the wires before. The image has n pages.
 pub record Writes (n : ℕ) (w : Wires) (h l : ℕ) (bs : List ℕ) : Type 0 where

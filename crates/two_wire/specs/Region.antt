@@ -1,5 +1,6 @@
 -- The regions of addresses, the window and the data memory, and the lent buffers behind them. Assumes nothing.
-use Rattle.std.specs.Prelude.{ℕ, ◌/◌, ◌%◌, Bool, cond, ◌||◌, List, slice_index}
+use Rattle.std.specs.Prelude.{◌≡◌, ℕ, ◌/◌, ◌%◌, Bool, cond, ◌||◌, List, length, slice_index, Some}
+use Rattle.image.specs.Layout.{size_of}
 use Rattle.image.specs.Shown.{shown}
 use Rattle.two_wire.specs.Span.{offset, within}
 use Rattle.two_wire.specs.Window.{first, window}
@@ -22,6 +23,11 @@ memory_length = 16384
 
 abbrev pub memory : Span
 memory = record { first = 0; length = memory_length; kept = 0 }
+
+-- what is lent is right, for an image of n pages
+pub record Right (n : ℕ) (l : Lent) : Type 0 where
+  pub size : size_of (length l.image) ≡ Some n
+  pub whole : length l.memory ≡ memory_length
 
 -- the region of each buffer, and the bytes behind it
 abbrev pub region_in : ℕ → Buffer → Region

@@ -2,7 +2,7 @@
 use Rattle.std.specs.Prelude.{ℕ, zero, suc, List, [], ◌∷◌}
 use Rattle.two_wire.specs.Region.{Lent}
 use Rattle.two_wire.specs.Record.{gathers}
-use Rattle.two_wire.specs.Answer.{answer_of}
+use Rattle.two_wire.specs.Answer.{returned}
 use Rattle.two_wire.specs.Event.{start, stop, byte_sent, byte_read_ack, write_code, read_code, after, does}
 use Rattle.two_wire.specs.declared.answer.BusAnswer.{BusAnswer}
 use Rattle.two_wire.specs.declared.record.BusRecord.{BusRecord}
@@ -18,7 +18,7 @@ pub record Wires : Type 0 where
   pub bus : BusRecord
 
 unfoldable pub answer_to : Wires → ℕ → ℕ → BusAnswer
-answer_to w event b = answer_of (does w.lent w.bus event b).reply
+answer_to w event b = returned (does w.lent w.bus event b).reply
 
 unfoldable pub after_event : Wires → ℕ → ℕ → Wires
 after_event w event b =

@@ -15,11 +15,11 @@ ghost use Rattle.two_wire.specs.Event.{does, Did};
 
 pub use answer::BusAnswer;
 pub use event::{BusStep, step};
-pub use record::{BusRecord, Phase, bus_at_rest, phase_of};
+pub use record::{BusRecord, Phase, bus_at_rest};
 pub use region::MEMORY_LENGTH;
 
-// An event on the two wires. The pin driver lends its record, which is updated where the driver has it. two_wire_c exports it to C under the
-// same name.
+// An event on the two wires. The pin driver lends its record, which is updated where the driver has it, over a step by value: document 01 names
+// this form. two_wire_c exports it to C under the same name.
 pub fn corridor_bus_event(
     rec: &mut BusRecord,
     image: &mut [u8],

@@ -2,7 +2,7 @@
 ghost use Rattle.std.specs.Prelude.{◌≡◌, ◌≤◌};
 ghost use Rattle.two_wire.specs.Region.{region_of, in_either};
 
-use crate::span::{Span, within};
+use crate::span::Span;
 use crate::window::window;
 
 // A lent buffer.
@@ -29,27 +29,29 @@ const MEMORY: Span = Span {
 };
 
 // The region that an address belongs to: the window, unless it is one of the data memory.
+#[tactic(auto, unfolding(crate::specs::Region::region_of))]
 pub fn region_of(n: usize, address: u16) -> Region
     requires { n ≤ 231 }
     ensures { result ≡ region_of n address }
 {
-    if within(MEMORY, address) {
-        return Region {
+    if MEMORY.within(address) {
+        Region {
             buffer: Buffer::Memory,
             span: MEMORY,
-        };
-    }
-    let span = window(n);
-    Region {
-        buffer: Buffer::Image,
-        span,
+        }
+    } else {
+        Region {
+            buffer: Buffer::Image,
+            span: window(n),
+        }
     }
 }
 
 // The window begins where the data memory ends, so that one test tells of both.
+#[tactic(auto, using(crate::proofs::Laws::either_below))]
 pub fn in_either(n: usize, address: u16) -> bool
     requires { n ≤ 231 }
     ensures { result ≡ in_either n address }
 {
-    (address as usize) < MEMORY_LENGTH + 4 * n
+    usize::from(address) < MEMORY_LENGTH + 4 * n
 }

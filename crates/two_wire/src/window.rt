@@ -27,10 +27,10 @@ pub fn page_of(address: u16) -> u16
     address / 64 * 64
 }
 
-// The place of data byte k of a write to an address, rolling over within the 64-byte page.
+// The place of data byte k of a write to an address, rolling over within the 64-byte page. Document 01 names the wrapping add.
 pub fn place_after(address: u16, k: u8) -> u8
     ensures { (result ≡ place_after address k) × (result < 64) }
 {
     let low = basics::low_byte(address);
-    std::num::wrapping_add_u8(low, k) % 64
+    low.wrapping_add(k) % 64
 }

@@ -1,5 +1,3 @@
 pub mod Reading
-pub mod Packing
-pub mod Whole
 pub mod Arguing
-pub mod Rows
+pub mod Tables

@@ -1,32 +1,43 @@
 -- The arguments of a line. Assumes nothing.
-use Rattle.std.specs.Prelude.{ℕ, ◌+◌, ◌≤◌, ◌≡◌, Bool, cond, List, [], ◌∷◌, ◌++◌, ltb, eqb, length, take, get_or}
+use Rattle.std.specs.Prelude.{ℕ, ◌+◌, ◌≤◌, ◌≡◌, Bool, cond, List, [], ◌∷◌, ◌++◌, map, ltb, length, take, get_or, Option, Some, None, Result, Ok, Err}
+use Rattle.std.specs.Str.{bytes_eq}
 use Rattle.words.specs.Text.{text}
-use Rattle.words.specs.Pack.{pack, packed_of}
 use Rattle.words.specs.Word.{first_of, rest_of, goes_on, Value, none, value, number_in, bytes_in}
 use Rattle.words.specs.declared.args.Kind.{Kind}
 use Rattle.words.specs.declared.args.Kind.TheVariants as kind
-use Rattle.words.specs.declared.args.Shape.{Shape}
-use Rattle.words.specs.declared.args.Verdict.{Verdict}
-use Rattle.words.specs.declared.args.Verdict.TheVariants as verdict
+use Rattle.words.specs.declared.args.Refusal.{Refusal}
+use Rattle.words.specs.declared.args.Refusal.TheVariants as refusal
 use Rattle.words.specs.declared.args.Given.{Given}
 
 -- ---- one argument
 
--- one of two words, which are known by their numbers
-unfoldable pub either_of : ℕ → ℕ → List ℕ → Value
-either_of one other w = cond (eqb (packed_of w) one) (value 0 []) (cond (eqb (packed_of w) other) (value 1 []) none)
+-- what an argument is: a number of a base, of at least and at most so many digits, and at most so large; one of two words; bytes, at most so many;
+-- bytes, or `-` for none
+pub data Form : Type 0 where
+  number : ℕ → ℕ → ℕ → ℕ → Form
+  either : List ℕ → List ℕ → Form
+  hex : ℕ → Form
+  dashed : ℕ → Form
+
+-- a number as an argument, which has no bytes
+abbrev pub plain : Option ℕ → Value
+plain None = none
+plain (Some n) = value n []
+
+-- one of two words: 0 for the first and 1 for the second
+unfoldable pub either_of : List ℕ → List ℕ → List ℕ → Option ℕ
+either_of one other w = cond (bytes_eq w one) (Some 0) (cond (bytes_eq w other) (Some 1) None)
 
 -- "bytes in pairs of hex digits, or `-` for none"
 unfoldable pub dashed_in : ℕ → List ℕ → Value
-dashed_in most w = cond (eqb (packed_of w) (pack (text "-"))) (value 0 []) (bytes_in most w)
+dashed_in most w = cond (bytes_eq w (text "-")) (value 0 []) (bytes_in most w)
 
--- what a word is as an argument of a kind
-unfoldable pub value_of : Kind → List ℕ → Value
-value_of kind.Nothing w = none
-value_of (kind.Number base least digits most) w = number_in base least digits most w
-value_of (kind.Either one other) w = either_of one other w
-value_of (kind.Hex most) w = bytes_in most w
-value_of (kind.Dashed most) w = dashed_in most w
+-- what a word is as an argument of a form
+unfoldable pub value_of : Form → List ℕ → Value
+value_of (number base least digits most) w = plain (number_in base least digits most w)
+value_of (either one other) w = plain (either_of one other w)
+value_of (hex most) w = bytes_in most w
+value_of (dashed most) w = dashed_in most w
 
 -- ---- all arguments: their numbers, and their bytes one behind the other
 
@@ -40,15 +51,9 @@ join (value n bs) bad = bad
 join (value n bs) (good ns cs) = good (n ∷ ns) (bs ++ cs)
 
 -- `on` says whether a space and w follow
-unfoldable pub args_of : List Kind → Bool → List ℕ → Args
+unfoldable pub args_of : List Form → Bool → List ℕ → Args
 args_of [] on w = cond on bad (good [] [])
-args_of (k ∷ ks) on w = cond on (join (value_of k (first_of w)) (args_of ks (goes_on w) (rest_of w))) (good [] [])
-
-abbrev pub kinds_of : Shape → List Kind
-kinds_of s = s.1 ∷ s.2 ∷ s.3 ∷ []
-
-abbrev pub kind_at : Shape → ℕ → Kind
-kind_at s i = get_or (kinds_of s) i kind.Nothing
+args_of (f ∷ fs) on w = cond on (join (value_of f (first_of w)) (args_of fs (goes_on w) (rest_of w))) (good [] [])
 
 -- ---- a whole line
 
@@ -63,48 +68,57 @@ abbrev pub enough : ℕ → Args → Said
 enough least bad = wrong
 enough least (good ns bs) = cond (ltb (length ns) least) wrong (given ns bs)
 
-unfoldable pub argued : Shape → List ℕ → Said
-argued s w = enough s.0 (args_of (kinds_of s) (goes_on w) (rest_of w))
-
--- a line of at most so many characters; a command that asks for more than three arguments is none
-unfoldable pub said_in : ℕ → Shape → List ℕ → Said
-said_in longest s w = cond (ltb longest (length w)) long (cond (ltb 3 s.0) unknown (argued s w))
+-- of a command, so many of whose arguments must be there
+unfoldable pub argued : ℕ → List Form → List ℕ → Said
+argued needed fs w = enough needed (args_of fs (goes_on w) (rest_of w))
 
 -- ---- what the code hands out, and the buffer of the bytes
 
-abbrev pub judged : Verdict → Said → Said
-judged verdict.Good s = s
-judged verdict.Unknown s = unknown
-judged verdict.Wrong s = wrong
-judged verdict.Long s = long
+-- the form of a kind, whose two words are lent
+abbrev pub form_of : Kind → Form
+form_of (kind.Number n) = number n.base n.least n.digits n.most
+form_of (kind.Either one other) = either one.now other.now
+form_of (kind.Hex most) = hex most
+form_of (kind.Dashed most) = dashed most
 
-abbrev pub said_by : Given → List ℕ → Said
-said_by r xs = judged r.verdict (given (take r.count r.numbers) (take r.end xs))
+abbrev pub forms_of : List Kind → List Form
+forms_of ks = map form_of ks
 
--- the largest number of a kind, and how many bytes it may have
-abbrev pub most_of : Kind → ℕ
-most_of kind.Nothing = 0
-most_of (kind.Number base least digits most) = most
-most_of (kind.Either one other) = 1
-most_of (kind.Hex most) = most
-most_of (kind.Dashed most) = most
+abbrev pub judged : Refusal → Said
+judged refusal.Unknown = unknown
+judged refusal.Wrong = wrong
+judged refusal.Long = long
 
-abbrev pub room_of : Kind → ℕ
-room_of kind.Nothing = 0
-room_of (kind.Number base least digits most) = 0
-room_of (kind.Either one other) = 0
-room_of (kind.Hex most) = most
-room_of (kind.Dashed most) = most
+abbrev pub said_by : Result Given Refusal → List ℕ → Said
+said_by (Ok r) xs = given (take r.count r.numbers) (take r.end xs)
+said_by (Err e) xs = judged e
 
-abbrev pub room_for : List Kind → ℕ
+-- the largest number of a form, and how many bytes it may have
+abbrev pub most_of : Form → ℕ
+most_of (number base least digits most) = most
+most_of (either one other) = 1
+most_of (hex most) = most
+most_of (dashed most) = most
+
+abbrev pub room_of : Form → ℕ
+room_of (number base least digits most) = 0
+room_of (either one other) = 0
+room_of (hex most) = most
+room_of (dashed most) = most
+
+abbrev pub room_for : List Form → ℕ
 room_for [] = 0
-room_for (k ∷ ks) = room_of k + room_for ks
+room_for (f ∷ fs) = room_of f + room_for fs
 
--- no number is larger than its kind allows, and those behind the first c are 0
-pub record Bounded (s : Shape) (c : ℕ) (ns : List ℕ) : Type 0 where
-  pub below : (j : ℕ) → get_or ns j 0 ≤ most_of (kind_at s j)
+-- the largest number of the argument of a place, 0 where there is none
+abbrev pub most_at : List Form → ℕ → ℕ
+most_at fs j = get_or (map most_of fs) j 0
+
+-- no number is larger than its form allows, and those behind the first c are 0
+pub record Bounded (fs : List Form) (c : ℕ) (ns : List ℕ) : Type 0 where
+  pub below : (j : ℕ) → get_or ns j 0 ≤ most_at fs j
   pub beyond : (j : ℕ) → c ≤ j → get_or ns j 0 ≡ 0
 
-pub record GivenFits (s : Shape) (r : Given) : Type 0 where
-  pub numbers : Bounded s r.count r.numbers
-  pub end : r.end ≤ room_for (kinds_of s)
+pub record GivenFits (fs : List Form) (r : Given) : Type 0 where
+  pub numbers : Bounded fs r.count r.numbers
+  pub end : r.end ≤ room_for fs

@@ -1,8 +1,7 @@
 -- One word of a line: where it ends, and the number or the bytes that it is. Assumes nothing.
-use Rattle.std.specs.Prelude.{ℕ, ◌+◌, ◌*◌, ◌-◌, ◌≤◌, Bool, true, false, cond, ◌&&◌, List, [], ◌∷◌, ◌++◌, ltb, leb, length, take, drop}
+use Rattle.std.specs.Prelude.{ℕ, ◌+◌, ◌*◌, ◌-◌, ◌≤◌, Bool, true, false, cond, ◌&&◌, List, [], ◌∷◌, ◌++◌, ltb, leb, length, take, drop, Option, Some, None, is_some, option_map, option_and_then, unwrap_or, IfSome}
 use Rattle.basics.specs.Runs.{index_of}
 use Rattle.words.specs.declared.word.Arg.{Arg}
-use Rattle.words.specs.declared.word.Arg.TheVariants as arg
 
 -- ---- "Words are separated by exactly one space"
 
@@ -25,42 +24,49 @@ pub data Value : Type 0 where
   none : Value
   value : ℕ → List ℕ → Value
 
--- the value of a digit of either case, 16 for any other byte
-unfoldable pub digit_of : ℕ → ℕ
+-- the value of a digit of either case; any other byte has none
+unfoldable pub digit_of : ℕ → Option ℕ
 digit_of b =
-    cond (ltb b 48) 16
-    (cond (ltb b 58) (b - 48)
-    (cond (ltb b 65) 16
-    (cond (ltb b 71) (b - 55)
-    (cond (ltb b 97) 16
-    (cond (ltb b 103) (b - 87) 16)))))
+    cond (ltb b 48) None
+    (cond (ltb b 58) (Some (b - 48))
+    (cond (ltb b 65) None
+    (cond (ltb b 71) (Some (b - 55))
+    (cond (ltb b 97) None
+    (cond (ltb b 103) (Some (b - 87)) None)))))
 
--- a number n with one more digit behind it; a byte that is no digit makes it too large for any limit
-unfoldable pub with_digit : ℕ → ℕ → ℕ → ℕ
-with_digit base n b = cond (ltb (digit_of b) base) (n * base + digit_of b) 4294967296
+-- a number n with one more digit d behind it, where d is a digit of the base
+abbrev pub longer : ℕ → ℕ → ℕ → Option ℕ
+longer base n d = cond (ltb d base) (Some (n * base + d)) None
 
-unfoldable pub value_from : ℕ → ℕ → List ℕ → ℕ
-value_from base n [] = n
-value_from base n (b ∷ r) = value_from base (with_digit base n b) r
+-- a number n with the digit that a byte is behind it; none, where it is no digit of the base
+unfoldable pub with_digit : ℕ → ℕ → ℕ → Option ℕ
+with_digit base n b = option_and_then (longer base n) (digit_of b)
+
+unfoldable pub value_from : ℕ → ℕ → List ℕ → Option ℕ
+value_from base n [] = Some n
+value_from base n (b ∷ r) = option_and_then (λ m. value_from base m r) (with_digit base n b)
+
+abbrev pub at_most : ℕ → ℕ → Option ℕ
+at_most most n = cond (leb n most) (Some n) None
 
 -- a number of at least `least` and at most `digits` digits, and at most `most`
-abbrev pub number_in : ℕ → ℕ → ℕ → ℕ → List ℕ → Value
+abbrev pub number_in : ℕ → ℕ → ℕ → ℕ → List ℕ → Option ℕ
 number_in base least digits most w =
-    cond (leb least (length w) && leb (length w) digits && leb (value_from base 0 w) most) (value (value_from base 0 w) []) none
+    cond (leb least (length w) && leb (length w) digits) (option_and_then (at_most most) (value_from base 0 w)) None
 
--- "Bytes .. are pairs of hex digits, either case in": the byte of two digits, 256 where one is none
-unfoldable pub hex_pair : ℕ → ℕ → ℕ
-hex_pair h l = cond (ltb 15 (digit_of h)) 256 (cond (ltb 15 (digit_of l)) 256 (digit_of h * 16 + digit_of l))
+-- "Bytes .. are pairs of hex digits, either case in": the byte of two digits; none, where one of them is no digit
+unfoldable pub hex_pair : ℕ → ℕ → Option ℕ
+hex_pair h l = option_and_then (λ x. option_map (λ y. x * 16 + y) (digit_of l)) (digit_of h)
 
 abbrev pub all_pairs : List ℕ → Bool
 all_pairs [] = true
 all_pairs (h ∷ []) = false
-all_pairs (h ∷ l ∷ r) = leb (hex_pair h l) 255 && all_pairs r
+all_pairs (h ∷ l ∷ r) = is_some (hex_pair h l) && all_pairs r
 
 abbrev pub pairs_of : List ℕ → List ℕ
 pairs_of [] = []
 pairs_of (h ∷ []) = []
-pairs_of (h ∷ l ∷ r) = hex_pair h l ∷ pairs_of r
+pairs_of (h ∷ l ∷ r) = unwrap_or (hex_pair h l) 0 ∷ pairs_of r
 
 -- one byte or more, and at most `most`
 abbrev pub bytes_in : ℕ → List ℕ → Value
@@ -74,16 +80,10 @@ behind bs none = none
 behind bs (value n cs) = value n (bs ++ cs)
 
 -- what an argument and the buffer say together
-abbrev pub reads : Arg → List ℕ → Value
-reads (arg.Of n e) xs = value n (take e xs)
-reads arg.None xs = none
-
--- the argument of a number: the bytes end where they did
-abbrev pub ends_at : ℕ → Value → Arg
-ends_at at none = arg.None
-ends_at at (value n bs) = arg.Of n at
+abbrev pub reads : Option Arg → List ℕ → Value
+reads (Some a) xs = value a.number (take a.end xs)
+reads None xs = none
 
 -- a number of at most `most`, and bytes that end no further than at e
-abbrev pub ArgFits : ℕ → ℕ → Arg → Type 0
-ArgFits most e (arg.Of n to) = (n ≤ most) × (to ≤ e)
-ArgFits most e arg.None = Unit
+abbrev pub ArgFits : ℕ → ℕ → Option Arg → Type 0
+ArgFits most e r = IfSome r (λ a. (a.number ≤ most) × (a.end ≤ e))

@@ -1,18 +1,27 @@
-// One word: its end, its number for a `match`, and the number or the bytes that it is as an argument.
-ghost use Rattle.std.specs.Prelude.{◌≡◌, true, ◌+◌, ◌≤◌, ◌<◌, length, take, drop};
-ghost use Rattle.words.specs.Pack.{packed_of, readable};
-ghost use Rattle.words.specs.Word.{word_end, digit_of, with_digit, number_in, hex_pair, bytes_in, behind, ends_at, reads, ArgFits};
+// One word: its end, and the number or the bytes that it is as an argument.
+ghost use Rattle.std.specs.Prelude.{◌≡◌, ◌+◌, ◌*◌, ◌≤◌, ◌<◌, length, take, drop, IfSome, option_and_then};
+ghost use Rattle.words.specs.Word.{word_end, digit_of, with_digit, at_most, number_in, hex_pair, bytes_in, behind, reads, ArgFits};
 
-use basics::{find, to_u16, to_u64};
+use basics::find;
 
 // An argument: its number, or the count of its bytes, and where the bytes that are gathered end with it.
 #[derive(Clone, Copy)]
-pub enum Arg {
-    Of(u32, usize),
-    None,
+pub struct Arg {
+    pub number: u32,
+    pub end: usize,
+}
+
+// How a number is written: with `least` to `digits` digits of its base, and it is at most `most`.
+#[derive(Clone, Copy)]
+pub struct Numeral {
+    pub base: u8,
+    pub least: usize,
+    pub digits: usize,
+    pub most: u32,
 }
 
 // The end of the word that begins at `start`: the first space, or the end of the text.
+#[tactic(auto, using(crate::proofs::Reading::end_found))]
 pub fn word_end(text: &[u8], start: usize) -> usize
     requires { start ≤ length text.now }
     ensures { (start ≤ result) × (result ≤ length text.now) × (result ≡ start + word_end (drop start text.now)) }
@@ -20,122 +29,77 @@ pub fn word_end(text: &[u8], start: usize) -> usize
     find(text, start, text.len(), b' ')
 }
 
-// A word of at most seven letters as a number, its first letter lowest and a 1 above its last; 0 for a longer one.
-pub fn packed(word: &[u8]) -> u64
-    ensures value { result ≡ packed_of word.now }
-    ensures result_value { readable word.now result ≡ true }
+// The value of a digit of either case. Not `to_digit`: the rule stands here, where a wrong digit is refused.
+#[tactic(auto, unfolding(crate::specs::Word::digit_of))]
+fn digit(b: u8) -> Option<u8>
+    ensures small { IfSome result (λ d. d < 16) }
+    ensures value { result ≡ digit_of b }
 {
-    let mut k: u64 = 1;
-    let mut i = word.len();
-    while i > 0 {
-        if k >= 0x100_0000_0000_0000 {
-            return 0;
-        }
-        i -= 1;
-        k = k * 256 + to_u64(word[i]);
+    match b {
+        b'0'..=b'9' => Some(b - b'0'),
+        b'A'..=b'F' => Some(b - b'A' + 10),
+        b'a'..=b'f' => Some(b - b'a' + 10),
+        _ => None,
     }
-    k
 }
 
-// The value of a digit of either case; 16 for any other byte. `0` is 48, `A` 65 and `a` 97.
-fn digit(b: u8) -> u8
-    ensures { (result ≤ 16) × (result ≡ digit_of b) }
-{
-    if b < 48 {
-        return 16;
-    }
-    if b < 58 {
-        return b - 48;
-    }
-    if b < 65 {
-        return 16;
-    }
-    if b < 71 {
-        return b - 55;
-    }
-    if b < 97 {
-        return 16;
-    }
-    if b < 103 {
-        return b - 87;
-    }
-    16
-}
-
-// A number with the digit that a byte is behind it; 4294967296, which is more than any limit, where the byte is no digit.
-fn with_digit(n: u64, base: u8, b: u8) -> u64
-    requires { n < 4294967296 }
+// A number with the digit that a byte is behind it.
+#[tactic(auto, unfolding(crate::specs::Word::with_digit))]
+fn with_digit(n: u32, base: u8, b: u8) -> Option<u64>
     ensures { result ≡ with_digit base n b }
 {
-    let d = digit(b);
-    if d >= base {
-        return 0x1_0000_0000;
+    let d = digit(b)?;
+    if d < base {
+        Some(u64::from(n) * u64::from(base) + u64::from(d))
+    } else {
+        None
     }
-    n * to_u64(base) + to_u64(d)
 }
 
-// A number of `least` to `digits` digits, at most `most`. It has no bytes: those gathered end at `at` as before.
-pub fn number_in(word: &[u8], base: u8, least: usize, digits: usize, most: u32, at: usize) -> Arg
-    ensures arg_fits { ArgFits most at result }
-    ensures value { result ≡ ends_at at (number_in base least digits most word.now) }
+// The number that a word is.
+#[tactic(auto, using(crate::proofs::Reading::number_off, crate::proofs::Reading::value_turn, crate::proofs::Reading::number_good))]
+pub fn number_in(word: &[u8], numeral: Numeral) -> Option<u32>
+    ensures most { IfSome result (λ n. n ≤ numeral.most) }
+    ensures value { result ≡ number_in numeral.base numeral.least numeral.digits numeral.most word.now }
 {
-    if word.len() < least {
-        return Arg::None;
+    if word.len() < numeral.least || word.len() > numeral.digits {
+        return None;
     }
-    if word.len() > digits {
-        return Arg::None;
-    }
-    let mut n: u64 = 0;
-    let mut i = 0;
-    while i < word.len() {
-        n = with_digit(n, base, word[i]);
-        if n > most as u64 {
-            return Arg::None;
+    let mut n = 0;
+    for b in word {
+        let m = with_digit(n, numeral.base, *b)?;
+        if m > u64::from(numeral.most) {
+            return None;
         }
-        i += 1;
+        n = m as u32;
     }
-    Arg::Of(n as u32, at)
+    Some(n)
 }
 
-// The byte that two hex digits make, or 256.
-fn hex_pair(high: u8, low: u8) -> u16
-    ensures { (result ≤ 256) × (result ≡ hex_pair high low) }
+// The byte that two hex digits make.
+#[tactic(auto, unfolding(crate::specs::Word::hex_pair))]
+fn hex_pair(high: u8, low: u8) -> Option<u8>
+    ensures { result ≡ hex_pair high low }
 {
-    let h = digit(high);
-    let l = digit(low);
-    if h > 15 {
-        return 256;
-    }
-    if l > 15 {
-        return 256;
-    }
-    to_u16(h) * 16 + to_u16(l)
+    Some(digit(high)? * 16 + digit(low)?)
 }
 
-// One byte or more, and at most `most`, as pairs of hex digits, laid at `at`.
-pub fn bytes_in(word: &[u8], bytes: &mut [u8], at: usize, most: u32) -> Arg
+// One byte or more, and at most `most`, as pairs of hex digits, laid at `at`: callers need where all bytes so far end, and so no slice of the rest.
+#[tactic(auto, using(crate::proofs::Reading::pair_turn, crate::proofs::Reading::pair_next, crate::proofs::Reading::given_empty, crate::proofs::Reading::given_odd, crate::proofs::Reading::given_long, crate::proofs::Reading::given_good))]
+pub fn bytes_in(word: &[u8], bytes: &mut [u8], at: usize, most: u32) -> Option<Arg>
     requires { at + most ≤ length bytes.old }
     ensures arg_fits { ArgFits most (at + most) result }
     ensures bytes_after { reads result bytes.new ≡ behind (take at bytes.old) (bytes_in most word.now) }
 {
-    if word.len() == 0 {
-        return Arg::None;
-    }
-    if word.len() % 2 == 1 {
-        return Arg::None;
-    }
     let count = word.len() / 2;
-    if count > most as usize {
-        return Arg::None;
+    if word.is_empty() || word.len() % 2 == 1 || count > most as usize {
+        return None;
     }
-    let mut i = 0;
-    while i < count {
-        let b = hex_pair(word[2 * i], word[2 * i + 1]);
-        if b > 255 {
-            return Arg::None;
-        }
-        bytes[at + i] = b as u8;
-        i += 1;
+    for (i, pair) in word.chunks_exact(2).enumerate() {
+        bytes[at + i] = hex_pair(pair[0], pair[1])?;
     }
-    Arg::Of(count as u32, at + count)
+    Some(Arg {
+        number: count as u32,
+        end: at + count,
+    })
 }

@@ -1,2 +1,3 @@
 pub mod Worked
-pub mod Running
+pub mod Tells
+pub mod Alike

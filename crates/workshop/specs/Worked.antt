@@ -1,7 +1,8 @@
 -- What the workshop program does with a line: the table of its lines, over the definitions of the calls. Assumes nothing.
-use Rattle.std.specs.Prelude.{ℕ, cond, List, eqb, get_or}
-use Rattle.screen.specs.Screen.{seen, answer_of}
-use Rattle.screen.specs.declared.call.ScreenAnswer.{ScreenAnswer}
+use Rattle.std.specs.Prelude.{ℕ, cond, List, eqb, get_or, Ok, Err}
+use Rattle.screen.specs.Screen.{Seen, seen, refusal_number}
+use Rattle.screen.specs.declared.reading.Verdict.{Verdict}
+use Rattle.screen.specs.declared.reading.Verdict.TheVariants.{Live, Old, Ahead}
 use Rattle.logger.specs.Writer.{Written, written}
 use Rattle.words.specs.Args.{Said, given, unknown, wrong, long}
 use Rattle.laying.specs.Parts.{line_text}
@@ -12,11 +13,14 @@ use Rattle.jobs.specs.Said.{verb_of, said_of}
 use Rattle.jobs.specs.Told.{Told, live, old, ahead, area, refused, help, no_such_command, not_so_written, too_long, parts_of}
 
 -- "`live WATTS`, `old WATTS`, `ahead WATTS`, or `refused K`"
-unfoldable pub verdict_told : ℕ → ℕ → Told
-verdict_told verdict watts = cond (eqb verdict 1) (live watts) (cond (eqb verdict 2) (old watts) (ahead watts))
+abbrev pub verdict_told : Verdict → ℕ → Told
+verdict_told Live watts = live watts
+verdict_told Old watts = old watts
+verdict_told Ahead watts = ahead watts
 
-unfoldable pub screen_told : ScreenAnswer → Told
-screen_told a = cond (eqb a.refused 0) (verdict_told a.verdict a.watts) (refused a.refused)
+abbrev pub screen_told : Seen → Told
+screen_told (Ok shown) = verdict_told shown.verdict shown.watts
+screen_told (Err refusal) = refused (refusal_number refusal)
 
 -- "`area HEX`, or `refused K`"
 unfoldable pub written_told : Written → Told
@@ -25,7 +29,7 @@ written_told w = cond (eqb w.refused 0) (area w.area) (refused w.refused)
 -- each line of the table: n and m are its first two numbers, and xs are its bytes
 abbrev pub worked : Verb → ℕ → ℕ → List ℕ → Told
 -- "what the screen says of the image at that present second"
-worked verb.Screen n m xs = screen_told (answer_of (seen xs n))
+worked verb.Screen n m xs = screen_told (seen xs n)
 -- "the area with the reading written into it"
 worked verb.Reading n m xs = written_told (written n m xs)
 worked verb.Help n m xs = help

@@ -1,12 +1,7 @@
-use borrow.Author.Rules.{rules}
-use Rattle.reads.proofs.Laws.{page_first, page_next, mirrored_turn, pages_length, pages_end}
+-- `reads::lay_mirrored` meets its contract. Assumes nothing.
+use Rattle.std.proofs.Common.{rules, Some}
+use Rattle.image.specs.Mirror.{through}
 use Rattle.reads.proofs.lay_mirrored.Goals as goal
 
-pub loop-i-init : goal.loop-i-init
-loop-i-init c = (search rules, search page_first, search rules, search rules, search rules)
-
-pub loop-i-preserved : goal.loop-i-preserved
-loop-i-preserved c = (search rules, search page_next, search rules, search mirrored_turn, search pages_length)
-
 pub returns : goal.returns
-returns c = search pages_end
+returns c = c.lay_pages.ensures (through c.args.n c.args.image.now (Some c.args.m)) (λ page v l p. search rules)

@@ -1,6 +1,12 @@
 -- `input::Input::advance` meets its contract. Assumes nothing.
-use Rattle.input.proofs.Cut.{refilled_line}
+use native.Mathlib.Omega.{arith}
+use mathlib.Core.Path.{sym, ap, ◌∙◌}
+use Rattle.input.specs.Reading.{Held}
+use Rattle.input.proofs.Cut.{none_ahead, some_ahead}
 use Rattle.input.proofs.Input.advance.Goals as goal
 
-pub returns : goal.returns
-returns g c = search refilled_line
+pub gather-requires : goal.gather-requires
+gather-requires g c = λ e. some_ahead _ _ _ (omega (arith, c.self.invariant, c.self.told)) c.if-self.true (ap (λ (v : Held). v.ahead) c.self.view_is ∙ e)
+
+pub refill-requires : goal.refill-requires
+refill-requires g c = sym (ap (λ (v : Held). v.ahead) c.self.view_is) ∙ none_ahead _ _ _ c.if-self.false

@@ -1,12 +1,11 @@
 -- `screen::blocks::walk` meets its contract. Assumes nothing.
-use Prim.Native.Nat.{◌≤◌, ◌-◌}
-use lib.ListN.{length, drop}
+use lib.ListN.{length}
 use mathlib.Core.Path.{◌≡◌}
 use Rattle.screen.specs.Blocks.{walk}
 use Rattle.screen.proofs.blocks.walk.Given as goal
 
-abbrev pub invariant-loop-at : goal.invariant-loop-at
-invariant-loop-at l = (l.at ≤ length l.area) × (walk (drop l.at l.area) ≡ walk l.area)
+abbrev pub invariant-loop-rest : goal.invariant-loop-rest
+invariant-loop-rest l = walk l.rest ≡ walk l.area
 
-abbrev pub decreases-loop-at : goal.decreases-loop-at
-decreases-loop-at l = length l.area - l.at
+abbrev pub decreases-loop-rest : goal.decreases-loop-rest
+decreases-loop-rest l = length l.rest

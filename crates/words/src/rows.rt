@@ -1,0 +1,55 @@
+// A program's table of commands, and what a line asks for by it.
+ghost use Rattle.std.specs.Prelude.{◌≡◌, ◌≤◌, length, IfOk, option_copied};
+ghost use Rattle.std.specs.List.{find};
+ghost use Rattle.std.specs.Str.{bytes_eq};
+ghost use Rattle.words.specs.Word.{first_of};
+ghost use Rattle.words.specs.Args.{said_by};
+ghost use Rattle.words.specs.Rows.{rows_of, row_in, said_in, given_of, Asks, TableFits};
+
+use crate::args::{Given, Kind, Refusal, args_of};
+use crate::word::word_end;
+
+// A command: its word, its verb, how many of its arguments must be there, and what each is.
+pub struct Row<V> {
+    pub word: &'static [u8],
+    pub verb: V,
+    pub needed: usize,
+    pub kinds: &'static [Kind],
+}
+
+// What a line asks for: a command, and its arguments. The bytes stand in a buffer beside it.
+#[derive(Clone, Copy)]
+pub struct Asked<V> {
+    pub verb: V,
+    pub given: Given,
+}
+
+// The row of a word.
+fn row_of<'a, V: Copy>(table: &'a [Row<V>], word: &[u8]) -> Option<&'a Row<V>>
+    ensures { option_copied result ≡ find (λ r. bytes_eq r.word.now word.now) table.now }
+{
+    table.iter().find(|row| row.word == word)
+}
+
+// What a line of at most `longest` characters asks for.
+#[tactic(auto, using(crate::proofs::Tables::long_said))]
+pub fn asked_of<V: Copy>(
+    table: &[Row<V>],
+    longest: usize,
+    text: &[u8],
+    bytes: &mut [u8],
+) -> Result<Asked<V>, Refusal>
+    requires { TableFits (length bytes.old) (rows_of table.now) }
+    ensures asks { IfOk result (λ a. Asks (row_in (rows_of table.now) (first_of text.now)) a) }
+    ensures said { said_by (given_of result) bytes.new ≡ said_in longest (row_in (rows_of table.now) (first_of text.now)) text.now }
+{
+    if text.len() > longest {
+        return Err(Refusal::Long);
+    }
+    let row = row_of(table, &text[..word_end(text, 0)]).ok_or(Refusal::Unknown)?;
+    let given = args_of(row.needed, row.kinds, text, bytes)?;
+    Ok(Asked {
+        verb: row.verb,
+        given,
+    })
+}
