@@ -1,6 +1,6 @@
 -- Laws of turns: what the program has said and kept behind each, and behind all of them. Assumes nothing.
 use Prim.Native.Nat.{ℕ, zero, suc, ◌+◌, ◌≤◌}
-use mathlib.Core.Path.{◌≡◌, refl, sym, ap, ap₂, ◌∙◌}
+use mathlib.Core.Path.{◌≡◌, refl, sym, ap, ap₂, subst, ◌∙◌}
 use mathlib.Core.Bool.{Bool, true, false, cond, ◌||◌, or-false}
 use mathlib.Core.List.{List, [], ◌∷◌, ◌++◌, append_assoc, append-nil}
 use native.Mathlib.Omega.{arith}
@@ -10,10 +10,14 @@ use borrow.Author.Tests.{lt-ltb, le-ltb, ltb-true, ltb-false, eqb-true, eqb-fals
 use Rattle.basics.proofs.Choice.{split}
 use Rattle.basics.specs.Runs.{index_after, index_of}
 use Rattle.input.specs.Lines.{Program, answer_to, kept_after, first_line, has_newline, behind_line}
-use Rattle.input.specs.Reading.{line_room, kept, Held, is_whole, is_over, Advances}
+use Rattle.std.specs.Prelude.{Option}
+use Rattle.std.specs.Io.KnownBytes.{Consumes}
+use Rattle.std.proofs.KnownBytes.{Consumes-nil, Consumes-trans}
+use Rattle.input.specs.Reading.{line_room, kept, Held, is_whole, is_over, Advances, Takes}
 use Rattle.input.specs.declared.Step.{Step}
 use Rattle.input.specs.declared.Step.TheVariants as step
 use Rattle.input.specs.Running.{Typing, came, typed, start, kept_at_end, LongAlike, Stands, Turns, Goes, Reached, AtEnd}
+use Rattle.input.proofs.Cut.{none_there}
 use Rattle.input.proofs.Long.{answer_kept, next_kept}
 
 -- ---- one turn
@@ -96,10 +100,6 @@ over_else step.End h = absurd (h refl)
 
 -- ---- a whole run
 
-none_there : (a : List ℕ) → length a ≡ 0 → a ≡ []
-none_there [] e = refl
-none_there (x ∷ r) e = absurd (omega arith)
-
 module _ {Kept : Type 0} (p : Program Kept) where
   -- no character comes, and no end of the line
   nothing_came : (t : Typing Kept) → came p t [] false ≡ t
@@ -153,18 +153,20 @@ module _ {Kept : Type 0} (p : Program Kept) where
   typed_more t [] xs = refl
   typed_more t (b ∷ a) xs = typed_more (cond (eqb b 10) (came p t [] true) (came p t (b ∷ []) false)) a xs
 
-  pub reached_start : (k : Kept) (i : Held) → k ≡ p.opening → (i.ahead ≡ []) × (i.line ≡ []) → Reached p 0 k i
+  pub reached_start : (a : Option (List ℕ)) (k : Kept) (i : Held) → k ≡ p.opening → (i.ahead ≡ []) × (i.line ≡ []) → Reached p a a 0 k i
   unfolding typed
-  reached_start k i opened (ahead, line) =
+  reached_start a k i opened (ahead, line) =
       record {
         all = [];
+        read = Consumes-nil a;
         typing = start p;
         stands = record { keeps = opened; line = line };
         same = ap (typed p (start p)) ahead;
         few = omega (arith, ap length ahead);
       }
 
-  module _ (turns : ℕ) (k k' : Kept) (i i' : Held) (s : Step) (text : List ℕ) (reached : Reached p turns k i) (goes : Goes p k i s k' i' text) where
+  module _ (a b b' : Option (List ℕ)) (turns : ℕ) (k k' : Kept) (i i' : Held) (s : Step) (text : List ℕ) (reached : Reached p a b turns k i)
+      (goes : Goes p k i s k' i' text) (takes : Takes b b' i i') where
     abbrev was : List ℕ
     was = i.ahead
 
@@ -178,7 +180,11 @@ module _ {Kept : Type 0} (p : Program Kept) where
     less : (length was ≡ 0 → ⊥) → length (behind_line was) + 1 ≤ length was
     less some = omega (arith, length-drop (index_of 10 was + 1) was, some)
 
-    pub reached_next : is_over s ≡ false → Reached p (turns + 1) k' i'
+    -- what was read, where this turn reads
+    read_more : length was ≡ 0 → Consumes a b' (reached.all ++ i'.ahead)
+    read_more none = Consumes-trans a b b' reached.all i'.ahead reached.read (takes.read none)
+
+    pub reached_next : is_over s ≡ false → Reached p a b' (turns + 1) k' i'
     unfolding index_of typed
     reached_next going =
         split (eqb (length was) 0)
@@ -191,6 +197,7 @@ module _ {Kept : Type 0} (p : Program Kept) where
         let got : (length i'.ahead ≡ 0 → ⊥) = eqb-false (length i'.ahead) 0 (sym (turned.moves.ended (eqb-true (length was) 0 e)) ∙ going) in
         record {
           all = reached.all ++ i'.ahead;
+          read = read_more (eqb-true (length was) 0 e);
           typing = came p here (first_line was) (has_newline was || is_over s);
           stands = turned.stands;
           same = ap (λ (u : Typing Kept). typed p u i'.ahead) same ∙ sym (typed_more (start p) reached.all i'.ahead);
@@ -201,6 +208,7 @@ module _ {Kept : Type 0} (p : Program Kept) where
         ap (λ (o : Bool). has_newline was || o) going ∙ or-false (has_newline was) in
         record {
           all = reached.all;
+          read = subst (λ (x : Option (List ℕ)). Consumes a x reached.all) (sym (takes.rests (eqb-false (length was) 0 e))) reached.read;
           typing = came p here (first_line was) (has_newline was || is_over s);
           stands = turned.stands;
           same =
@@ -210,13 +218,15 @@ module _ {Kept : Type 0} (p : Program Kept) where
           few = omega (arith, reached.few, less (eqb-false (length was) 0 e), ap length behind);
         })
 
-    pub reached_end : is_over s ≡ true → AtEnd p k'
+    pub reached_end : is_over s ≡ true → AtEnd p a b' k'
     unfolding index_of typed kept_at_end
     reached_end over =
         let none : was ≡ [] = none_there was (turned.moves.over over) in
+        let rest : i'.ahead ≡ [] = none_there i'.ahead (eqb-true (length i'.ahead) 0 (sym (turned.moves.ended (turned.moves.over over)) ∙ over)) in
         let same : here ≡ typed p (start p) reached.all = ap (typed p here) (sym none) ∙ reached.same in
         record {
           all = reached.all;
+          read = subst (Consumes a b') (ap (λ (x : List ℕ). reached.all ++ x) rest ∙ append-nil reached.all) (read_more (turned.moves.over over));
           kept =
               turned.stands.keeps
               ∙ ap₂ (λ (x : List ℕ) (o : Bool). (came p here (first_line x) (has_newline x || o)).kept) none over

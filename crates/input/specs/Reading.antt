@@ -1,5 +1,6 @@
 -- How a program holds the part of its input that it has read. Assumes nothing.
-use Rattle.std.specs.Prelude.{ℕ, ◌≡◌, Bool, true, false, ◌||◌, List, ◌++◌, eqb, length, take}
+use Rattle.std.specs.Prelude.{ℕ, ◌≡◌, Bool, true, false, ◌||◌, List, ◌++◌, eqb, length, take, Option}
+use Rattle.std.specs.Io.KnownBytes.{Consumes}
 use Rattle.input.specs.Lines.{first_line, has_newline, behind_line}
 use Rattle.input.specs.declared.Step.{Step}
 use Rattle.input.specs.declared.Step.TheVariants as step
@@ -15,10 +16,19 @@ line_room = 18599
 abbrev pub kept : List ℕ → List ℕ
 kept l = take line_room l
 
--- what of the input is read and still to be looked at, and what there is of the line
+-- where an input keeps it: in a chunk of bytes from one place to another, and in the first bytes of a line's buffer
+pub record Places : Type 0 where
+  pub chunk : List ℕ
+  pub at : ℕ
+  pub end : ℕ
+  pub buffer : List ℕ
+  pub len : ℕ
+
+-- What of the input is read and still to be looked at, and what there is of the line. No promise speaks of its places: with them an input can be copied.
 pub record Held : Type 0 where
   pub ahead : List ℕ
   pub line : List ℕ
+  pub places : Places
 
 -- the line is whole: its newline, or the end of the input, has come
 abbrev pub is_whole : Step → Bool
@@ -44,3 +54,9 @@ pub record Advances (i : Held) (s : Step) (r : Held) : Type 0 where
   pub line : r.line ≡ kept (i.line ++ first_line i.ahead)
   pub whole : is_whole s ≡ (has_newline i.ahead || is_over s)
   pub moves : Moves i.ahead s r
+
+-- What a step, from i to r, took of a reader, which had the bytes a to give before it and has b behind it, where it says which: where nothing was
+-- ahead, what is ahead then; and else none.
+pub record Takes (a b : Option (List ℕ)) (i r : Held) : Type 0 where
+  pub read : length i.ahead ≡ 0 → Consumes a b r.ahead
+  pub rests : (length i.ahead ≡ 0 → ⊥) → b ≡ a

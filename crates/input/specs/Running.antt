@@ -1,5 +1,6 @@
 -- A program over its whole input, line by line. Assumes nothing.
-use Rattle.std.specs.Prelude.{ℕ, ◌+◌, ◌*◌, ◌<◌, ◌≤◌, ◌≡◌, Bool, true, false, cond, ◌||◌, List, [], ◌∷◌, ◌++◌, eqb, length}
+use Rattle.std.specs.Prelude.{ℕ, ◌+◌, ◌*◌, ◌<◌, ◌≤◌, ◌≡◌, Bool, true, false, cond, ◌||◌, List, [], ◌∷◌, ◌++◌, eqb, length, Option}
+use Rattle.std.specs.Io.KnownBytes.{Consumes}
 use Rattle.input.specs.Lines.{Program, answer_to, kept_after, first_line, has_newline}
 use Rattle.input.specs.Reading.{longest, kept, Held, is_over, Moves}
 use Rattle.input.specs.declared.Step.{Step}
@@ -56,21 +57,23 @@ pub record Goes {Kept : Type 0} (p : Program Kept) (k : Kept) (i : Held) (s : St
 
 -- ---- a whole run
 
--- There is an input behind which the program stands, but for what is ahead, after so many turns: no two turns pass without a byte of it. (No
--- contract says which bytes a read gives, so that none can name it.)
-pub record Reached {Kept : Type 0} (p : Program Kept) (turns : ℕ) (k : Kept) (i : Held) : Type 0 where
+-- There is an input behind which the program stands, but for what is ahead, after so many turns: no two turns pass without a byte of it. It is what
+-- was read, from a reader that had the bytes a to give and has b now, where the reader says which: standard input doesn't, so that none can name it.
+pub record Reached {Kept : Type 0} (p : Program Kept) (a b : Option (List ℕ)) (turns : ℕ) (k : Kept) (i : Held) : Type 0 where
   pub all : List ℕ
+  pub read : Consumes a b all
   pub typing : Typing Kept
   pub stands : Stands typing k i
   pub same : typed p typing i.ahead ≡ typed p (start p) all
   pub few : turns + length i.ahead ≤ 2 * length all
 
--- It stands behind the end of an input.
-pub record AtEnd {Kept : Type 0} (p : Program Kept) (k : Kept) : Type 0 where
+-- It stands behind the end of an input, which is what was read.
+pub record AtEnd {Kept : Type 0} (p : Program Kept) (a b : Option (List ℕ)) (k : Kept) : Type 0 where
   pub all : List ℕ
+  pub read : Consumes a b all
   pub kept : k ≡ kept_at_end p all
 
--- Where the input ended, the program stands behind the end of an input; where its turns were used up, it has made so many.
-abbrev pub Ends : {Kept : Type 0} → Program Kept → Ending → Kept → Type 0
-Ends p ending.Over k = AtEnd p k
-Ends p ending.Worn k = (i : Held) × Reached p 18446744073709551615 k i
+-- Where the input ended, the last step says so, and the program stands behind the end of an input; where the turns were used up, it has made so many.
+abbrev pub Ends : {Kept : Type 0} → Program Kept → Option (List ℕ) → Option (List ℕ) → Ending → Step → Kept → Type 0
+Ends p a b ending.Over s k = (is_over s ≡ true) × AtEnd p a b k
+Ends p a b ending.Worn s k = (i : Held) × Reached p a b 18446744073709551615 k i

@@ -2,41 +2,51 @@
 // that is being gathered in a line buffer. A line that fills the buffer is too long for a command, and what is behind that is dropped.
 #![tactic(auto)]
 
-ghost use Rattle.std.specs.Prelude.{◌≡◌, ◌++◌, ◌≤◌, length, [], IfOk};
+ghost use Rattle.std.specs.Prelude.{◌≡◌, ◌++◌, ◌≤◌, take, [], IfOk};
 ghost use Rattle.input.specs.Lines.{Program as Meaning, unended, is_skipped, answer_to, kept_after};
-ghost use Rattle.input.specs.Reading.{line_room, kept, Advances};
+ghost use Rattle.input.specs.Reading.{line_room, kept, Advances, Takes};
 ghost use Rattle.input.specs.Running.{LongAlike, Goes, Ends};
 
 use arrayvec::ArrayVec;
-use basics::find;
+use basics::{copy, find};
 use std::io::{self, Read, Write};
 use std::marker::Model;
 
 // Two more than the longest line of any program has: the workshop's, of 18,597 characters.
-const ROOM: usize = 18599;
+pub const ROOM: usize = 18599;
 
-type Line = ArrayVec<u8, ROOM>;
+pub type Line = [u8; ROOM];
 
-#[derive(Drop)]
+pub type Chunk = [u8; 4096];
+
+// A line is an array and a length, since an input can be copied, and an ArrayVec can't.
+#[derive(Clone, Copy)]
 pub struct Input {
-    chunk: [u8; 4096],
+    chunk: Chunk,
     // the bytes of the chunk from `at` to `end` are still to be looked at
     at: usize,
     end: usize,
-    // what there is of the line
-    line: Line,
+    buffer: Line,
+    // so many bytes of the buffer are the line
+    len: usize,
 }
 
 impl Model for Input {
-    ghost use Rattle.std.specs.Prelude.{◌≤◌, length};
+    ghost use Rattle.std.specs.Prelude.{◌≤◌, take};
     ghost use Rattle.basics.specs.Runs.{slice};
     ghost use Rattle.input.specs.Reading.{line_room, Held};
 
     ghost Value = { Held };
 
-    ghost view = { λ i. record { ahead = slice i.at i.end i.chunk; line = i.line.items } };
+    ghost view = { λ i. record {
+      ahead = slice i.at i.end i.chunk;
+      line = take i.len i.buffer;
+      places = record { chunk = i.chunk; at = i.at; end = i.end; buffer = i.buffer; len = i.len };
+    } };
 
-    ghost invariant = { λ i. (i.at ≤ i.end) × (i.end ≤ 4096) × (length i.line.items ≤ line_room) };
+    ghost inverse = { λ h. let p = h.places in record { chunk = p.chunk; at = p.at; end = p.end; buffer = p.buffer; len = p.len } };
+
+    ghost invariant = { λ i. (i.at ≤ i.end) × (i.end ≤ 4096) × (i.len ≤ line_room) };
 }
 
 // What a step of the input came to.
@@ -50,13 +60,15 @@ pub enum Step {
     End,
 }
 
-// Puts bytes behind the line, as many as it has room for.
-fn append(line: &mut Line, bytes: &[u8])
-    ensures bound { length line.new.items ≤ line_room }
-    ensures items { line.new.items ≡ kept (line.old.items ++ bytes.now) }
+// Puts bytes behind the first `len` of the line, as many as it has room for. Answers how many are there then.
+fn append(line: &mut Line, len: usize, bytes: &[u8]) -> usize
+    requires { len ≤ line_room }
+    ensures bound { result ≤ line_room }
+    ensures line { take result line.new ≡ kept (take len line.old ++ bytes.now) }
 {
-    let count = line.remaining_capacity().min(bytes.len());
-    let _ = line.try_extend_from_slice(&bytes[..count]);
+    let count = bytes.len().min(ROOM - len);
+    copy(&bytes[..count], &mut line[len..]);
+    len + count
 }
 
 impl Input {
@@ -68,7 +80,8 @@ impl Input {
             chunk: [0; 4096],
             at: 0,
             end: 0,
-            line: Line::new(),
+            buffer: [0; ROOM],
+            len: 0,
         }
     }
 
@@ -76,19 +89,20 @@ impl Input {
     pub fn line(&self) -> &[u8]
         ensures { result.now ≡ self.now.line }
     {
-        self.line.as_slice()
+        &self.buffer[..self.len]
     }
 
     // The line was answered: the next one begins.
     pub fn answered(&mut self)
         ensures { (self.new.ahead ≡ self.old.ahead) × (self.new.line ≡ []) }
     {
-        self.line.clear();
+        self.len = 0;
     }
 
     // One step: the rest of the chunk up to a newline, or, where nothing is left of it, one read.
     pub fn advance<R: Read>(&mut self, reader: &mut R) -> Step
-        ensures { Advances self.old result self.new }
+        ensures step { Advances self.old result self.new }
+        ensures takes { Takes (R.remaining reader.old) (R.remaining reader.new) self.old self.new }
     {
         if self.at < self.end {
             return self.gather();
@@ -99,7 +113,8 @@ impl Input {
     // Reads once: nothing comes at the end of the input, or where the read fails. At the end of the input the line counts as whole.
     fn refill<R: Read>(&mut self, reader: &mut R) -> Step
         requires { self.old.ahead ≡ [] }
-        ensures { Advances self.old result self.new }
+        ensures step { Advances self.old result self.new }
+        ensures takes { Takes (R.remaining reader.old) (R.remaining reader.new) self.old self.new }
     {
         let count = reader.read(&mut self.chunk).unwrap_or(0);
         self.at = 0;
@@ -117,7 +132,8 @@ impl Input {
     {
         let chunk: &[u8] = &self.chunk;
         let stop = find(chunk, self.at, self.end, b'\n');
-        append(&mut self.line, &chunk[self.at..stop]);
+        let len = append(&mut self.buffer, self.len, &chunk[self.at..stop]);
+        self.len = len;
         if stop < self.end {
             self.at = stop + 1;
             return Step::Line;
@@ -182,7 +198,8 @@ fn turn<const OUT: usize, P: Program<OUT>, R: Read>(
     reader: &mut R,
     out: &mut ArrayVec<u8, OUT>,
 ) -> Step
-    ensures { Goes P.meaning program.old input.old result program.new input.new out.new.items }
+    ensures goes { Goes P.meaning program.old input.old result program.new input.new out.new.items }
+    ensures takes { Takes (R.remaining reader.old) (R.remaining reader.new) input.old input.new }
 {
     let step = input.advance(reader);
     if let Step::Part = step {
@@ -201,6 +218,13 @@ pub enum Ending {
     Worn,
 }
 
+// How a run ended, and its last step.
+#[derive(Clone, Copy)]
+pub struct Ended {
+    pub ending: Ending,
+    pub last: Step,
+}
+
 // Runs a program to the end of the input, and writes what each turn says. A proved loop has to end, and nothing says that the input does: so the
 // turns are counted, up to a number that no run uses up.
 pub fn run<const OUT: usize, P: Program<OUT>, R: Read, W: Write>(
@@ -208,17 +232,24 @@ pub fn run<const OUT: usize, P: Program<OUT>, R: Read, W: Write>(
     reader: &mut R,
     writer: &mut W,
     out: &mut ArrayVec<u8, OUT>,
-) -> io::Result<Ending>
+) -> io::Result<Ended>
     requires { program.old ≡ P.meaning.opening }
-    ensures { IfOk result (λ ending. Ends P.meaning ending program.new) }
+    ensures { IfOk result (λ e. Ends P.meaning (R.remaining reader.old) (R.remaining reader.new) e.ending e.last program.new) }
 {
     let mut input = Input::new();
+    let mut last = Step::Part;
     for turns in 0..u64::MAX {
-        let step = turn(program, &mut input, reader, out);
+        last = turn(program, &mut input, reader, out);
         writer.write_all(out.as_slice())?;
-        if let Step::End = step {
-            return Ok(Ending::Over);
+        if let Step::End = last {
+            return Ok(Ended {
+                ending: Ending::Over,
+                last,
+            });
         }
     }
-    Ok(Ending::Worn)
+    Ok(Ended {
+        ending: Ending::Worn,
+        last,
+    })
 }

@@ -1,8 +1,11 @@
 -- `input::append` meets its contract. Assumes nothing.
-use Rattle.input.proofs.Cut.{append_kept, kept_few}
+use native.Mathlib.Omega.{arith}
+use Rattle.input.proofs.Cut.{append_kept}
 use Rattle.input.proofs.append.Goals as goal
 
 pub returns : goal.returns
 returns c =
-    let kept_is = append_kept _ _ _ _ _ _ c.remaining_capacity.ensures c.min-count.ensures c.try_extend_from_slice.ensures.variant c.try_extend_from_slice.ensures.ok in
-    record { bound = kept_few _ _ kept_is; items = kept_is }
+    record {
+      bound = omega (arith, c.requires, c.min-count.ensures);
+      line = append_kept _ _ _ _ c.told-line c.requires c.min-count.ensures _ _ _ c.copy.ensures;
+    }

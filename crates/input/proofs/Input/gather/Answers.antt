@@ -5,8 +5,8 @@ use Rattle.input.proofs.Input.gather.Goals as goal
 
 pub returns-then-stop-self : goal.returns-then-stop-self
 returns-then-stop-self c =
-    line_ended _ _ _ _ _ _ _ c.self.view_is (omega (arith, c.self.invariant)) c.requires c.find-stop.ensures.first c.find-stop.ensures.within.1 c.append.ensures.items c.if-stop-self.true
+    line_ended _ _ _ _ _ _ _ _ _ c.self.view_is (omega (arith, c.self.invariant)) c.requires c.find-stop.ensures.first c.find-stop.ensures.within.1 c.append-len.ensures.line c.if-stop-self.true
 
 pub returns : goal.returns
 returns c =
-    line_open _ _ _ _ _ _ _ c.self.view_is (omega (arith, c.self.invariant)) c.requires c.find-stop.ensures.first c.find-stop.ensures.within.1 c.append.ensures.items c.if-stop-self.false
+    line_open _ _ _ _ _ _ _ _ _ c.self.view_is (omega (arith, c.self.invariant)) c.requires c.find-stop.ensures.first c.find-stop.ensures.within.1 c.append-len.ensures.line c.if-stop-self.false
