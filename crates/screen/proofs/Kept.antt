@@ -78,7 +78,7 @@ promises = record {
 
 -- each by computing both sides
 pub examples : Examples
-unfolding walk blocks block counted is_reading low_first_four four_at verdict_at reading_seen
+unfolding size_of walk blocks block counted is_reading low_first_four four_at verdict_at reading_seen seen
 examples = record {
   alone = refl;
   behind_lock_control = refl;
@@ -95,6 +95,9 @@ examples = record {
   first_old = refl;
   latest = refl;
   one_ahead = refl;
-  empty = refl;
-  twelve_bytes = refl;
+  empty = record { outcome = refl; answer = refl };
+  twelve_bytes = record { outcome = refl; answer = refl };
+  none_said = record { outcome = refl; answer = refl };
+  cut_said = record { outcome = refl; answer = refl };
+  no_image = record { outcome = refl; answer = refl };
 }

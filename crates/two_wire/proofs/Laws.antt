@@ -10,7 +10,7 @@ use Rattle.two_wire.specs.Window.{first, window, page_of, place_after}
 use Rattle.two_wire.specs.Region.{Lent, both, memory_length, Right, memory, region_in, bytes_in, region_of, in_either, read_at, byte_at}
 use Rattle.two_wire.specs.Record.{number_of, phase_of, is_in}
 use Rattle.two_wire.specs.Gathered.{landed_at, landed_to}
-use Rattle.two_wire.specs.Event.{event_of, Does, enters, read_on, refuses, by_name, by_event, by_memory, by_size, does, after, Did, Says}
+use Rattle.two_wire.specs.Event.{event_of, Does, enters, read_on, Refused, by_name, by_event, by_memory, by_size, does, after, Did, Says}
 use Rattle.two_wire.specs.declared.answer.Reply.TheVariants.{Byte}
 use Rattle.two_wire.specs.declared.record.BusRecord.{BusRecord}
 use Rattle.two_wire.specs.declared.record.Phase.{Phase}
@@ -192,15 +192,15 @@ left o s l h = record { answer = h.answer; bus = h.bus; lent = sym (ap (after l)
 
 module _ (l : Lent) (r : BusRecord) (event b : ℕ) where
   -- "1: image length isn't 184, 544 or 928"
-  pub refused_length : size_of (length l.image) ≡ None → does l r event b ≡ refuses WrongImage r
+  pub refused_length : size_of (length l.image) ≡ None → Refused WrongImage 1 r (does l r event b)
   unfolding does by_size
-  refused_length e = rw e
+  refused_length e = record { outcome = rw e; answer = rw e }
 
   module _ (n : ℕ) (size : size_of (length l.image) ≡ Some n) where
     -- "5, bus call with a data memory that isn't 16,384 bytes, after 1 and before 4"
-    pub refused_memory_lem : length l.memory ≢ memory_length → does l r event b ≡ refuses WrongMemory r
+    pub refused_memory_lem : length l.memory ≢ memory_length → Refused WrongMemory 5 r (does l r event b)
     unfolding does by_size by_memory
-    refused_memory_lem m = rw (size, ne_eqb (length l.memory) memory_length m)
+    refused_memory_lem m = let ne = ne_eqb (length l.memory) memory_length m in record { outcome = rw (size, ne); answer = rw (size, ne) }
 
     pub by_its_name : length l.memory ≡ memory_length → does l r event b ≡ by_name n l r (event_of event) b
     unfolding does by_size by_memory by_event
