@@ -75,7 +75,7 @@ pub fn bus_at_rest() -> BusRecord
 }
 
 impl BusRecord {
-    pub(crate) fn is_in(self, phase: Phase) -> bool
+    pub fn is_in(self, phase: Phase) -> bool
         ensures { result ≡ is_in phase self }
     {
         self.phase == u8::from(phase)
@@ -83,7 +83,7 @@ impl BusRecord {
 
     // The record in another phase, with what the phase holds, at a counter, and with no bytes.
     #[tactic(auto, unfolding(crate::specs::Record::holding))]
-    pub(crate) fn holding(self, phase: Phase, held: u8, counter: u16) -> BusRecord
+    pub fn holding(self, phase: Phase, held: u8, counter: u16) -> BusRecord
         ensures { result ≡ holding self phase held counter }
     {
         BusRecord {
@@ -96,7 +96,7 @@ impl BusRecord {
 
     // The record with one more data byte. It is set in a copy of the bytes alone: set in the record, all are copied once more, which was counted.
     #[tactic(auto, unfolding(crate::specs::Record::gathers))]
-    pub(crate) fn gathers(self, byte: u8) -> BusRecord
+    pub fn gathers(self, byte: u8) -> BusRecord
         ensures { result ≡ gathers self byte }
     {
         let place = usize::from(place_after(self.counter, self.held));
@@ -110,7 +110,7 @@ impl BusRecord {
     }
 
     // How many places are gathered.
-    pub(crate) fn gathered(self) -> u8
+    pub fn gathered(self) -> u8
         ensures { (result ≡ gathered self) × (result ≤ 64) }
     {
         self.held.min(64)
@@ -118,7 +118,7 @@ impl BusRecord {
 
     // The counter that a stop leaves.
     #[tactic(auto, unfolding(crate::specs::Gathered::counter_after))]
-    pub(crate) fn counter_after(self) -> u16
+    pub fn counter_after(self) -> u16
         ensures { result ≡ counter_after self }
     {
         if self.held == 0 {
