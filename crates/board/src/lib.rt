@@ -1,5 +1,6 @@
 // The tag's calls under C names, for a controller's firmware: include/corridor_tag.h declares them. Each is the call below it, with its
-// contract. `corridor_bus_event` has a crate of its own, two_wire_c.
+// contract, but where that gives a Result or an Option, which C has not: `corridor_screen`, `corridor_write_reading` and `corridor_pages` make
+// numbers of it, of which their contracts speak. `corridor_bus_event` has a crate of its own, two_wire_c.
 #![tactic(auto)]
 
 ghost use Rattle.std.specs.Prelude.{◌≡◌, length};

@@ -33,8 +33,8 @@ bus_cases mem e = record {
   rest_sent = (rw e, rw e);
   rest_starts = rw e;
   rest_stops = rw e;
-  refused_event = rw e;
-  refused_memory = (refl, refl);
+  refused_event = record { outcome = rw e; answer = rw e };
+  refused_memory = (record { outcome = refl; answer = refl }, record { outcome = refl; answer = refl });
   every_place = (rw e, rw e, rw e, rw e);
   counts_on = (rw e, rw e, rw e);
   outside = (rw e, rw e, rw e);

@@ -79,9 +79,9 @@ pub record BusCases (mem : List ℕ) : Type 0 where
   pub rest_starts : sees mem (bus 7 5 0x4010) 0 ≡ wires.answered Nothing (empty 1 0x4010)
   pub rest_stops : sees mem (bus 7 5 0x4010) 1 ≡ wires.answered Nothing (empty 0 0x4010)
   -- "4: bus call: event isn't one of the five"; "the records it was given"
-  pub refused_event : sees mem (bus 7 5 0x4010) 5 ≡ wires.refuses WrongEvent (bus 7 5 0x4010)
+  pub refused_event : wires.Refused WrongEvent 4 (bus 7 5 0x4010) (sees mem (bus 7 5 0x4010) 5)
   -- Q-1: "5, bus call with a data memory that isn't 16,384 bytes, after 1 and before 4": here it has no byte
-  pub refused_memory : (wires.does (both [] []) (bus 7 5 0x4010) 9 0 ≡ wires.refuses WrongImage (bus 7 5 0x4010)) × (sees [] (bus 7 5 0x4010) 9 ≡ wires.refuses WrongMemory (bus 7 5 0x4010))
+  pub refused_memory : wires.Refused WrongImage 1 (bus 7 5 0x4010) (wires.does (both [] []) (bus 7 5 0x4010) 9 0) × wires.Refused WrongMemory 5 (bus 7 5 0x4010) (sees [] (bus 7 5 0x4010) 9)
   -- while writing, a count of 64 or more is of every place, and the next place goes by its remainder: bytes up to 403Fh, and then no more
   pub every_place : (get_or (stored mem (bus 4 255 0x4015)).image 0x14 0 ≡ 0xFF) × (get_or (stored mem (bus 4 255 0x4015)).image 0x3F 0 ≡ 0xFF)
       × (get_or (stored mem (bus 4 255 0x4015)).image 0x40 0 ≡ 0x10) × ((sees mem (bus 4 255 0x4015) 1).bus ≡ empty 0 0x4014)

@@ -9,15 +9,16 @@ use lib.Seq.{length-take-le, take_at, drop_at, take-append-add, get_or-append-ad
 use borrow.Author.Tests.{le-leb, lt-ltb, le-ltb, ltb-false}
 use Rattle.basics.proofs.Choice.{by}
 use Rattle.locks.specs.Locks.{lock_page}
-use Rattle.std.specs.Prelude.{Ok}
+use Rattle.std.specs.Prelude.{Result, Ok, Err}
 use Rattle.image.specs.Layout.{four_of, low_first_four, four_at, bytes_of, Fits}
 use Rattle.screen.specs.Blocks.{Found, counted, block, walk}
 use Rattle.screen.specs.Reading.{is_reading, second_in, watts_in, verdict_at}
 use Rattle.screen.specs.Screen.{reads, reading_seen, found_seen, user_bytes, seen}
 use Rattle.screen.specs.declared.reading.Verdict.{Verdict}
 use Rattle.screen.proofs.Kept as screen
-use Rattle.logger.specs.Writer.{reading_of, block_of, Written, written}
-use Rattle.logger.specs.Promises.{written_at04, ReadBack, Promises}
+use Rattle.logger.specs.Writer.{reading_of, block_of, Written, written, answer_number}
+use Rattle.logger.specs.declared.ShortArea.{ShortArea}
+use Rattle.logger.specs.Promises.{written_at04, ReadBack, Alike, Promises}
 use Rattle.logger.specs.Examples.{Examples}
 use Rattle.logger.proofs.Writing.{block_length}
 
@@ -144,6 +145,22 @@ module _ (n k second watts : ℕ) (img : List ℕ) (f : Fits n img) (some : 14 �
       ∙ ap (take 14) (append_assoc (block_of second watts) (drop 14 lent) after)
       ∙ take_at (block_of second watts) (drop 14 lent ++ after) 14 (block_length second watts)
 
+-- ---- the number of a result
+
+told_apart : (r r' : Result Unit ShortArea) → answer_number r ≡ answer_number r' → r ≡ r'
+told_apart (Ok done) (Ok done') e = refl
+told_apart (Ok done) (Err refusal) e = absurd (omega (arith, e))
+told_apart (Err refusal) (Ok done) e = absurd (omega (arith, e))
+told_apart (Err refusal) (Err refusal') e = refl
+
+alike : Alike
+alike = record {
+  results = λ due r r' after after' w w'. (told_apart r r' (w.refused ∙ sym w'.refused), w.area ∙ sym w'.area);
+  numbers = λ due r r' after after' w w'. (w.refused ∙ sym w'.refused, w.area ∙ sym w'.area);
+  done = refl;
+  refused = λ refusal. refl;
+}
+
 -- ---- the theorems
 
 pub promises : Promises
@@ -159,7 +176,7 @@ promises = record {
   short = none_written;
   rest = λ second watts i area. same_rest second watts area i;
   long = same_length;
-  alike = λ due r r' after after' w w'. (w.refused ∙ sym w'.refused, w.area ∙ sym w'.area);
+  alike = alike;
 }
 
 -- each by computing both sides

@@ -7,12 +7,17 @@ use lib.ListN.{length, drop, get_or, length-take, length-drop}
 use lib.Seq.{ext_get_or, get_or-take, get_or-drop}
 use Rattle.locks.specs.Locks.{lock_page}
 use Rattle.locks.proofs.Lock.{by_size_lem}
-use Rattle.std.specs.Prelude.{Some}
+use Rattle.std.specs.Prelude.{cond, eqb, Some, Ok, Err}
 use Rattle.image.specs.Layout.{size_of, four_at, low_first_four, Fits}
 use Rattle.screen.specs.Blocks.{counted, block, blocks, walk, BlockByBlock}
 use Rattle.screen.specs.Reading.{is_reading, verdict_at}
-use Rattle.screen.specs.Screen.{reading_seen, found_seen, user_bytes, seen}
-use Rattle.screen.specs.Promises.{Ages, SameUserPages, Promises}
+use Rattle.screen.specs.Screen.{Seen, reads, reading_seen, found_seen, user_bytes, seen, answer_of}
+use Rattle.screen.specs.declared.refusals.Refusal.{Refusal}
+use Rattle.screen.specs.declared.refusals.Refusal.TheVariants.{WrongImage, NoMessage, Passes, NoReading}
+use Rattle.screen.specs.declared.reading.Verdict.{Verdict}
+use Rattle.screen.specs.declared.reading.Verdict.TheVariants.{Live, Old, Ahead}
+use Rattle.screen.specs.declared.call.ScreenAnswer.{ScreenAnswer}
+use Rattle.screen.specs.Promises.{Ages, SameUserPages, Alike, Promises}
 use Rattle.screen.specs.Examples.{Examples}
 use Rattle.std.proofs.lemmas.Grind.{common_steps}
 use Rattle.screen.proofs.Walking.{goes, only, stops}
@@ -63,6 +68,37 @@ module _ (n : ℕ) (img img' : List ℕ) (s : SameUserPages n img img') where
       ∙ ap (λ (xs : List ℕ). found_seen (walk xs) present) same_bytes
       ∙ sym (seen_there n img' s.other present)
 
+-- ---- the numbers of an answer
+
+-- what the call answered, back from the numbers that a board gets of it
+abbrev refusal_by : ℕ → Refusal
+refusal_by k = cond (eqb k 1) WrongImage (cond (eqb k 20) NoMessage (cond (eqb k 21) Passes NoReading))
+
+abbrev verdict_by : ℕ → Verdict
+verdict_by k = cond (eqb k 1) Live (cond (eqb k 2) Old Ahead)
+
+abbrev seen_by : ScreenAnswer → Seen
+seen_by a = cond (eqb a.refused 0) (reads (verdict_by a.verdict) a.watts a.second) (Err (refusal_by a.refused))
+
+shown_again : (verdict : Verdict) (watts second : ℕ) → seen_by (answer_of (reads verdict watts second)) ≡ reads verdict watts second
+shown_again Live watts second = refl
+shown_again Old watts second = refl
+shown_again Ahead watts second = refl
+
+seen_again : (s : Seen) → seen_by (answer_of s) ≡ s
+seen_again (Ok shown) = shown_again shown.verdict shown.watts shown.second
+seen_again (Err WrongImage) = refl
+seen_again (Err NoMessage) = refl
+seen_again (Err Passes) = refl
+seen_again (Err NoReading) = refl
+
+alike : Alike
+alike = record {
+  results = λ r r' img present e f. e ∙ sym f;
+  numbers = λ r r' img present e f. e ∙ sym f;
+  told_apart = λ s s' e. sym (seen_again s) ∙ ap seen_by e ∙ seen_again s';
+}
+
 -- ---- the theorems
 
 pub block_by_block : BlockByBlock
@@ -71,14 +107,14 @@ block_by_block = record { goes = goes; only = only }
 pub promises : Promises
 promises = record {
   ages = ages;
-  alike = λ r r' img present e f. e ∙ sym f;
+  alike = alike;
   stops = stops;
   elsewhere = λ n img img' present s. same_seen n img img' s present;
 }
 
 -- each by computing both sides
 pub examples : Examples
-unfolding walk blocks block counted is_reading low_first_four four_at verdict_at reading_seen
+unfolding size_of walk blocks block counted is_reading low_first_four four_at verdict_at reading_seen seen
 examples = record {
   alone = refl;
   behind_lock_control = refl;
@@ -95,6 +131,9 @@ examples = record {
   first_old = refl;
   latest = refl;
   one_ahead = refl;
-  empty = refl;
-  twelve_bytes = refl;
+  empty = record { outcome = refl; answer = refl };
+  twelve_bytes = record { outcome = refl; answer = refl };
+  none_said = record { outcome = refl; answer = refl };
+  cut_said = record { outcome = refl; answer = refl };
+  no_image = record { outcome = refl; answer = refl };
 }

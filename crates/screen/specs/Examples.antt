@@ -1,8 +1,8 @@
 -- Readings as bytes, and what the definitions say of them: each line is computed by the checker. Assumes nothing.
 use Rattle.std.specs.Prelude.{◌≡◌, List, [], ◌∷◌, ◌++◌, Ok, Err, ℕ}
 use Rattle.screen.specs.Blocks.{walk}
-use Rattle.screen.specs.Screen.{Seen, reads, found_seen}
-use Rattle.screen.specs.declared.refusals.Refusal.TheVariants.{NoMessage, Passes, NoReading}
+use Rattle.screen.specs.Screen.{Seen, reads, found_seen, seen, Refused}
+use Rattle.screen.specs.declared.refusals.Refusal.TheVariants.{WrongImage, NoMessage, Passes, NoReading}
 use Rattle.screen.specs.declared.reading.Verdict.TheVariants.{Live, Old, Ahead}
 
 -- D5 00 08, the second 25800, which is 64C8h, and 42 W
@@ -35,5 +35,9 @@ pub record Examples : Type 0 where
   pub first_old : said reading_block 26701 ≡ reads Old 42 25800
   pub latest : said reading_block 4294967295 ≡ reads Old 42 25800
   pub one_ahead : said reading_block 25799 ≡ reads Ahead 42 25800
-  pub empty : said (0x03 ∷ 0x00 ∷ 0xFE ∷ []) 0 ≡ Err NoReading
-  pub twelve_bytes : said (0x03 ∷ 0x0C ∷ reading ++ (0x00 ∷ [])) 0 ≡ Err NoReading
+  pub empty : Refused NoReading 22 (said (0x03 ∷ 0x00 ∷ 0xFE ∷ []) 0)
+  pub twelve_bytes : Refused NoReading 22 (said (0x03 ∷ 0x0C ∷ reading ++ (0x00 ∷ [])) 0)
+  -- and the numbers of the other three refusals
+  pub none_said : Refused NoMessage 20 (said (0xFE ∷ reading_block) 25800)
+  pub cut_said : Refused Passes 21 (said (0x01 ∷ 0x0C ∷ reading) 25800)
+  pub no_image : Refused WrongImage 1 (seen [] 25800)

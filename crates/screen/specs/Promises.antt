@@ -4,7 +4,7 @@ use Rattle.locks.specs.Locks.{lock_page}
 use Rattle.image.specs.Layout.{Fits}
 use Rattle.screen.specs.Blocks.{walk}
 use Rattle.screen.specs.Reading.{verdict_at}
-use Rattle.screen.specs.Screen.{seen, answer_of}
+use Rattle.screen.specs.Screen.{Seen, seen, answer_of}
 use Rattle.screen.specs.declared.reading.Verdict.TheVariants.{Live, Old, Ahead}
 use Rattle.screen.specs.declared.call.ScreenAnswer.{ScreenAnswer}
 
@@ -27,10 +27,16 @@ pub record SameUserPages (n : ℕ) (img img' : List ℕ) : Type 0 where
   pub other : Fits n img'
   pub bytes : (i : ℕ) → 4 * 0x04 ≤ i → i < 4 * lock_page n → get_or img i 0 ≡ get_or img' i 0
 
+-- two answers that the contract allows for one input are equal: the call's, and the numbers that a board gets of it
+pub record Alike : Type 0 where
+  pub results : (r r' : Seen) (img : List ℕ) (present : ℕ) → r ≡ seen img present → r' ≡ seen img present → r ≡ r'
+  pub numbers : (r r' : ScreenAnswer) (img : List ℕ) (present : ℕ) → r ≡ answer_of (seen img present) → r' ≡ answer_of (seen img present) → r ≡ r'
+  -- no two answers of the call have the same numbers, as two refusals would by one number
+  pub told_apart : (s s' : Seen) → answer_of s ≡ answer_of s' → s ≡ s'
+
 pub record Promises : Type 0 where
   pub ages : Ages
-  -- two answers that the contract allows for one input are equal
-  pub alike : (r r' : ScreenAnswer) (img : List ℕ) (present : ℕ) → r ≡ answer_of (seen img present) → r' ≡ answer_of (seen img present) → r ≡ r'
+  pub alike : Alike
   -- nothing behind the first block of type 03h matters
   pub stops : (xs m : List ℕ) → walk xs ≡ Ok m → StopsAt xs m
   -- and no byte outside the user pages

@@ -1,5 +1,5 @@
 -- The screen call, after request Q-6: its refusals, and what it says of an image at a present second. Assumes nothing.
-use Rattle.std.specs.Prelude.{List, cond, Option, Some, None, Result, Ok, Err, ℕ, ◌*◌, ◌-◌, length, take, drop}
+use Rattle.std.specs.Prelude.{◌≡◌, List, cond, Option, Some, None, Result, Ok, Err, ℕ, ◌*◌, ◌-◌, length, take, drop}
 use Rattle.locks.specs.Locks.{lock_page}
 use Rattle.image.specs.Layout.{size_of}
 use Rattle.screen.specs.Blocks.{Found, walk}
@@ -49,3 +49,8 @@ seen img present = seen_in (size_of (length img)) img present
 abbrev pub answer_of : Seen → ScreenAnswer
 answer_of (Err refusal) = record { refused = refusal_number refusal; verdict = 0; watts = 0; second = 0 }
 answer_of (Ok shown) = record { refused = 0; verdict = verdict_number shown.verdict; watts = shown.watts; second = shown.second }
+
+-- an answer s that is a refusal, with the number that a board gets of it
+pub record Refused (refusal : Refusal) (number : ℕ) (s : Seen) : Type 0 where
+  pub outcome : s ≡ Err refusal
+  pub answer : answer_of s ≡ record { refused = number; verdict = 0; watts = 0; second = 0 }

@@ -43,5 +43,5 @@ module _ (n : ℕ) (size : size_of (length (blank n)) ≡ Some n) where
     round = round;
     apart = (refl, refl);
     acknowledged = λ mem e. (rw (size, e, size, e, size, e, size, e), rw (size, e, size, e, size, e, size, e), rw (size, e, size, e, size, e, size, e, lt-ltb 0 (4 * n) (omega (arith, (fits n (blank n) size).least))));
-    order = λ r b. (refl, rw size, λ mem e. refused_event_lem (both (blank n) mem) r 9 b n size e (omega arith));
+    order = λ r b. (record { outcome = refl; answer = refl }, record { outcome = rw size; answer = rw size }, λ mem e. refused_event_lem (both (blank n) mem) r 9 b n size e (omega arith));
   }

@@ -9,8 +9,8 @@ use Rattle.two_wire.specs.Span.{offset, within, stores, following, counted}
 use Rattle.two_wire.specs.Window.{first, window, page_of, place_after}
 use Rattle.two_wire.specs.Region.{Lent, both, memory_length, Right, memory, region_in, bytes_in, region_of, in_either, read_at, byte_at}
 use Rattle.two_wire.specs.Record.{number_of, phase_of, is_in}
-use Rattle.two_wire.specs.Gathered.{landed_at, landed_to}
-use Rattle.two_wire.specs.Event.{event_of, Does, enters, read_on, refuses, by_name, by_event, by_memory, by_size, does, after, Did, Says}
+use Rattle.two_wire.specs.Gathered.{landed_at, landed_to, counter_after}
+use Rattle.two_wire.specs.Event.{event_of, Does, enters, read_on, Refused, by_name, by_event, by_memory, by_size, does, after, Did, Says}
 use Rattle.two_wire.specs.declared.answer.Reply.TheVariants.{Byte}
 use Rattle.two_wire.specs.declared.record.BusRecord.{BusRecord}
 use Rattle.two_wire.specs.declared.record.Phase.{Phase}
@@ -110,6 +110,30 @@ same_region n c a =
     (λ _ w. sym (region_memory n a (within memory a) refl w))
     (λ _ w. sym (region_window n a (within memory a) refl (window n) (not_memory a (first_at_most (window n) a w)) refl))
 
+-- what a counter c counts as; g is its region
+module _ (n c : ℕ) (g : Region) (e : g ≡ region_of n c) where
+  abbrev place : ℕ
+  place = counted g.span c
+
+  place_read : place ≡ read_at n c
+  unfolding read_at counted
+  place_read = rw e (by_buffer (λ (x : Region). cond (within x.span c) c x.span.first ≡ cond (in_either n c) c first) n c (λ t. rw t) (λ f. rw f))
+
+  place_within : 45 ≤ n → within g.span place ≡ true
+  unfolding counted
+  place_within l =
+      rw e (by_buffer (λ (x : Region). within x.span (cond (within x.span c) c x.span.first) ≡ true) n c (λ t. rw t t)
+      (λ _. by (λ (x : ℕ). within (window n) x ≡ true) (within (window n) c) (λ t. t) (λ _. first_within n l)))
+
+  place_region : 45 ≤ n → g ≡ region_of n place
+  place_region l = e ∙ sym (same_region n c place (subst (λ (x : Region). within x.span place ≡ true) e (place_within l)))
+
+  -- A byte of the image is read as it is shown: byte o, where o is the counter's place in the window.
+  pub byte_shown : (o : ℕ) → o ≡ offset g.span place → (img mem : List ℕ) → Fits n img → (b : ℕ) → g.buffer ≡ Image → b ≡ shown n img (o / 4) (o % 4)
+      → b ≡ byte_at n (both img mem) place
+  unfolding byte_at
+  byte_shown o f img mem fit b i k = rw (← place_region fit.least, i, ← f) k
+
 -- what a read finds where what is lent is right; g is the counter's region
 module _ (n : ℕ) (img mem : List ℕ) (right : Right n (both img mem)) (r : BusRecord) (g : Region) (e : g ≡ region_of n r.counter) where
   abbrev a : ℕ
@@ -123,17 +147,13 @@ module _ (n : ℕ) (img mem : List ℕ) (right : Right n (both img mem)) (r : Bu
   fit = right_fits n img mem right
 
   reads_at : a ≡ read_at n r.counter
-  unfolding read_at counted
-  reads_at = rw e (by_buffer (λ (x : Region). cond (within x.span r.counter) r.counter x.span.first ≡ cond (in_either n r.counter) r.counter first) n r.counter (λ t. rw t) (λ f. rw f))
+  reads_at = place_read n r.counter g e
 
   read_within : within g.span a ≡ true
-  unfolding counted
-  read_within =
-      rw e (by_buffer (λ (x : Region). within x.span (cond (within x.span r.counter) r.counter x.span.first) ≡ true) n r.counter (λ t. rw t t)
-      (λ _. by (λ (x : ℕ). within (window n) x ≡ true) (within (window n) r.counter) (λ t. t) (λ _. first_within n fit.least)))
+  read_within = place_within n r.counter g e fit.least
 
   read_region : g ≡ region_of n a
-  read_region = e ∙ sym (same_region n r.counter a (subst (λ (x : Region). within x.span a ≡ true) e read_within))
+  read_region = place_region n r.counter g e fit.least
 
   pub read_below : at < g.span.length
   read_below = offset_below g.span a read_within
@@ -158,8 +178,7 @@ module _ (n : ℕ) (img mem : List ℕ) (right : Right n (both img mem)) (r : Bu
 
     pub image_read : g.buffer ≡ Image → b ≡ shown n img (at / 4) (at % 4) → Says (enters (Byte b) r then (following g.span (g.span.first + at))) s
         → Says (read_on then n (both img mem) r) s
-    unfolding byte_at
-    image_read i k = reads_on (rw (← read_region, i) k)
+    image_read i k = reads_on (byte_shown n r.counter g e at refl img mem fit b i k)
 
     pub memory_read : g.buffer ≡ Memory → b ≡ get_or mem at 0 → Says (enters (Byte b) r then (following g.span (g.span.first + at))) s
         → Says (read_on then n (both img mem) r) s
@@ -172,6 +191,11 @@ module _ (s : Span) (a b : ℕ) (buf : List ℕ) where
   pub length_landed_at : length (landed_at s a b buf) ≡ length buf
   unfolding landed_at
   length_landed_at = by (λ (xs : List ℕ). length xs ≡ length buf) (stores s a) (λ _. length-set buf (offset s a) b) (λ _. refl)
+
+-- the counter stays where none was gathered
+pub counter_kept_lem : (r : BusRecord) → r.held ≡ 0 → r.counter ≡ counter_after r
+unfolding counter_after
+counter_kept_lem r e = rw e
 
 -- one more of them
 pub landed_more : (s : Span) (r : BusRecord) (k : ℕ) (buf : List ℕ)
@@ -192,15 +216,15 @@ left o s l h = record { answer = h.answer; bus = h.bus; lent = sym (ap (after l)
 
 module _ (l : Lent) (r : BusRecord) (event b : ℕ) where
   -- "1: image length isn't 184, 544 or 928"
-  pub refused_length : size_of (length l.image) ≡ None → does l r event b ≡ refuses WrongImage r
+  pub refused_length : size_of (length l.image) ≡ None → Refused WrongImage 1 r (does l r event b)
   unfolding does by_size
-  refused_length e = rw e
+  refused_length e = record { outcome = rw e; answer = rw e }
 
   module _ (n : ℕ) (size : size_of (length l.image) ≡ Some n) where
     -- "5, bus call with a data memory that isn't 16,384 bytes, after 1 and before 4"
-    pub refused_memory_lem : length l.memory ≢ memory_length → does l r event b ≡ refuses WrongMemory r
+    pub refused_memory_lem : length l.memory ≢ memory_length → Refused WrongMemory 5 r (does l r event b)
     unfolding does by_size by_memory
-    refused_memory_lem m = rw (size, ne_eqb (length l.memory) memory_length m)
+    refused_memory_lem m = let ne = ne_eqb (length l.memory) memory_length m in record { outcome = rw (size, ne); answer = rw (size, ne) }
 
     pub by_its_name : length l.memory ≡ memory_length → does l r event b ≡ by_name n l r (event_of event) b
     unfolding does by_size by_memory by_event

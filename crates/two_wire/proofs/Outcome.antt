@@ -1,5 +1,5 @@
 -- The outcome of an event is one, what it touches, and that a refused call leaves everything. Assumes nothing.
-use Rattle.std.proofs.Common.{◌≡◌, ℕ, ◌<◌, eqb, ◌≢◌, length, get_or, sym, refl, ◌∙◌, ap₂, arith, ne_eqb, eqb-true}
+use Rattle.std.proofs.Common.{◌≡◌, ℕ, ◌<◌, eqb, ◌≢◌, length, get_or, sym, refl, ap, ◌∙◌, ap₂, arith, ne_eqb, eqb-true}
 use Rattle.std.specs.Prelude.{Some, None, Option, Result}
 use mathlib.Core.Path.{subst⁻¹}
 use borrow.Author.Tests.{eqb-false}
@@ -11,7 +11,7 @@ use Rattle.two_wire.specs.Region.{Lent, memory_length, memory, bytes_in, region_
 use Rattle.two_wire.specs.Record.{phase_of, is_in}
 use Rattle.two_wire.specs.Answer.{returned}
 use Rattle.two_wire.specs.Gathered.{stored_in}
-use Rattle.two_wire.specs.Event.{start, stop, byte_sent, byte_read_ack, byte_read_last, write_code, read_code, Effect, keep, land, Does, after, started, device, addressed, sent_in, sent, stopped, read_on, read, refuses, by_name, by_event, by_memory, by_size, does}
+use Rattle.two_wire.specs.Event.{start, stop, byte_sent, byte_read_ack, byte_read_last, write_code, read_code, Effect, keep, land, Does, after, started, device, addressed, sent_in, sent, stopped, read_on, read, refuses, Refused, by_name, by_event, by_memory, by_size, does}
 use Rattle.two_wire.specs.Promises.{OneOutcome, address_of, Touches, OneRegion}
 use Rattle.two_wire.specs.declared.answer.BusAnswer.{BusAnswer}
 use Rattle.two_wire.specs.declared.answer.Refusal.{Refusal}
@@ -105,10 +105,13 @@ module _ (l : Lent) (r : BusRecord) (event b : ℕ) where
       (λ p. taken (read p n l r) (read_mild n r l p).0) (λ _. (refl, refl)))
 
   -- "4: bus call: event isn't one of the five"
-  pub refused_event_lem : (n : ℕ) → size_of (length l.image) ≡ Some n → length l.memory ≡ memory_length → 4 < event → does l r event b ≡ refuses WrongEvent r
+  pub refused_event_lem : (n : ℕ) → size_of (length l.image) ≡ Some n → length l.memory ≡ memory_length → 4 < event → Refused WrongEvent 4 r (does l r event b)
   unfolding does by_size by_memory by_event
-  refused_event_lem n e m k =
-      rw (e, m, ne_eqb event 0 (λ q. omega arith), ne_eqb event 1 (λ q. omega arith), ne_eqb event 2 (λ q. omega arith), ne_eqb event 3 (λ q. omega arith), ne_eqb event 4 (λ q. omega arith))
+  refused_event_lem n e m k = record { outcome = none_of_five; answer = ap (λ (o : Does). returned o.reply) none_of_five }
+    where
+      none_of_five : does l r event b ≡ refuses WrongEvent r
+      none_of_five =
+          rw (e, m, ne_eqb event 0 (λ q. omega arith), ne_eqb event 1 (λ q. omega arith), ne_eqb event 2 (λ q. omega arith), ne_eqb event 3 (λ q. omega arith), ne_eqb event 4 (λ q. omega arith))
 
 -- ---- what an event touches
 

@@ -128,6 +128,11 @@ read p n l r = cond (is_in Reading r) (read_on p n l r) (answered (Byte no_byte)
 abbrev pub refuses : Refusal → BusRecord → Does
 refuses k r = record { reply = Err k; bus = r; effect = keep }
 
+-- that an outcome o is this, with the number that C sees
+pub record Refused (k : Refusal) (number : ℕ) (r : BusRecord) (o : Does) : Type 0 where
+  pub outcome : o ≡ refuses k r
+  pub answer : returned o.reply ≡ record { refused = number; kind = 0; value = 0 }
+
 -- "Events: start, stop, byte sent, byte read with ACK, byte read without."; "A read without ACK makes the tag deaf."
 abbrev pub on_event : ℕ → Lent → BusRecord → Event → ℕ → Does
 on_event n l r Start b = started r

@@ -3,7 +3,7 @@ use Rattle.std.specs.Prelude.{◌≡◌, ℕ, ◌+◌, ◌*◌, List, [], ◌∷
 use Rattle.two_wire.specs.Region.{both, memory_length, region_in, region_of}
 use Rattle.two_wire.specs.Record.{entered, at_rest}
 use Rattle.two_wire.specs.Answer.{answer_of}
-use Rattle.two_wire.specs.Event.{byte_sent, refuses, does}
+use Rattle.two_wire.specs.Event.{byte_sent, Refused, does}
 use Rattle.two_wire.specs.Run.{Wires, answer_to, after_start, after_stop, after_write, after_bytes, after_read_code, answers_to}
 use Rattle.two_wire.specs.declared.answer.BusAnswer.{BusAnswer}
 use Rattle.two_wire.specs.declared.record.BusRecord.{BusRecord}
@@ -63,5 +63,5 @@ pub record MemoryExamples (n : ℕ) : Type 0 where
   pub acknowledged : (mem : List ℕ) → Whole mem
       → (answer_to_low n mem 0x00 0x00 ≡ answer_of Acknowledged) × (answer_to_low n mem 0x3F 0xFF ≡ answer_of Acknowledged) × (answer_to_low n mem 0x40 0x00 ≡ answer_of Acknowledged)
   -- "5, .. after 1 and before 4": of an event that isn't one of the five, where image and data memory are wrong too, the data memory alone, neither
-  pub order : (r : BusRecord) (b : ℕ) → (does (both [] []) r 9 b ≡ refuses WrongImage r) × (does (both (blank n) []) r 9 b ≡ refuses WrongMemory r)
-      × ((mem : List ℕ) → Whole mem → does (both (blank n) mem) r 9 b ≡ refuses WrongEvent r)
+  pub order : (r : BusRecord) (b : ℕ) → Refused WrongImage 1 r (does (both [] []) r 9 b) × Refused WrongMemory 5 r (does (both (blank n) []) r 9 b)
+      × ((mem : List ℕ) → Whole mem → Refused WrongEvent 4 r (does (both (blank n) mem) r 9 b))

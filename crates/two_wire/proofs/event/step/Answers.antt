@@ -10,13 +10,13 @@ use Rattle.two_wire.proofs.event.step.Goals as goal
 pub returns-in_default : goal.returns-in_default
 returns-in_default c =
     let e : size_of (length c.args.image.now) ≡ None = cc in
-    rw (refused_length (both c.args.image.now c.args.memory.now) c.args.rec c.args.event c.args.byte e) (left _ _ _ c.refused.ensures)
+    rw (refused_length (both c.args.image.now c.args.memory.now) c.args.rec c.args.event c.args.byte e).outcome (left _ _ _ c.refused.ensures)
 
 pub returns-then-not-is_whole : goal.returns-then-not-is_whole
 returns-then-not-is_whole c =
     let e : size_of (length c.args.image.now) ≡ Some c.in-Some.n = cc in
     let m : length c.args.memory.now ≢ memory_length = search rules in
-    rw (refused_memory_lem (both c.args.image.now c.args.memory.now) c.args.rec c.args.event c.args.byte _ e m) (left _ _ _ c.refused-then-not-is_whole.ensures)
+    rw (refused_memory_lem (both c.args.image.now c.args.memory.now) c.args.rec c.args.event c.args.byte _ e m).outcome (left _ _ _ c.refused-then-not-is_whole.ensures)
 
 pub returns-in-Ok : goal.returns-in-Ok
 returns-in-Ok c =
