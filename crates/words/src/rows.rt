@@ -10,6 +10,7 @@ use crate::args::{Given, Kind, Refusal, args_of};
 use crate::word::word_end;
 
 // A command: its word, its verb, how many of its arguments must be there, and what each is.
+#[derive(Clone, Copy)]
 pub struct Row<V> {
     pub word: &'static [u8],
     pub verb: V,
