@@ -1,21 +1,22 @@
 -- Laws of a table of commands, whatever its rows, and of a whole line. Assumes nothing.
-use Prim.Native.Nat.{ℕ, ◌+◌, ◌<◌, ◌≤◌}
+use Prim.Native.Nat.{ℕ, suc, ◌+◌, ◌<◌, ◌≤◌}
 use mathlib.Core.Path.{◌≡◌, refl, ap, sym, subst, subst⁻¹, ◌∙◌}
 use mathlib.Core.Bool.{Bool, true, false, cond}
-use mathlib.Core.List.{List, [], ◌∷◌}
+use mathlib.Core.List.{List, [], ◌∷◌, ◌++◌}
 use native.Mathlib.Omega.{arith}
 use lib.ListN.{length, take, drop, get_or}
 use borrow.Author.Tests.{lt-ltb, le-ltb}
 use denote.Ref.{Bor}
-use Rattle.std.specs.Prelude.{Option, Some, None, Result, Ok, Err, IfSome, IsSomeAnd, IfOk, unwrap_or, option_map, option_copied}
-use Rattle.std.specs.List.{find}
+use Rattle.std.specs.Prelude.{◌≢◌, Option, Some, None, Result, Ok, Err, IfSome, IsSomeAnd, IfOk, unwrap_or, option_map, option_copied}
+use Rattle.std.specs.List.{All, find}
 use Rattle.std.specs.Str.{bytes_eq}
 use Rattle.std.proofs.lemmas.List.{length-map}
+use Rattle.std.proofs.lemmas.Slice.Eq.{bytes_eq-Decides}
 use Rattle.basics.proofs.Choice.{split}
 use Rattle.words.proofs.Arguing.{looked_up}
 use Rattle.words.specs.Word.{word_end, first_of}
 use Rattle.words.specs.Args.{form_of, Said, long, argued, forms_of, said_by, room_for, GivenFits}
-use Rattle.words.specs.Rows.{Named, asks, row_in, Command, argued_by, said_in, command_of, command_in, rows_of, CommandFits, TableFits, verb_by, verb_in, Asks}
+use Rattle.words.specs.Rows.{Named, asks, row_in, Command, argued_by, said_in, command_of, command_in, rows_of, CommandFits, TableFits, verb_by, verb_in, Asks, ByWord}
 use Rattle.words.specs.declared.args.Refusal.{Refusal}
 use Rattle.words.specs.declared.args.Refusal.TheVariants as refusal
 use Rattle.words.specs.declared.args.Given.{Given}
@@ -36,6 +37,34 @@ same_choice false r x y e = e
 found_row : {V : Type 0} (table : List (Row V)) (w : List ℕ) → option_map command_of (find (λ r. bytes_eq r.word.now w) table) ≡ row_in (rows_of table) w
 found_row [] w = refl
 found_row (r ∷ rs) w = same_choice (bytes_eq r.word.now w) r (find (λ r. bytes_eq r.word.now w) rs) (row_in (rows_of rs) w) (found_row rs w)
+
+-- a word is compared by its letters, and the first row that has it is found
+module _ {V : Type 0} (w : List ℕ) where
+  abbrev test : Row V → Bool
+  test x = bytes_eq x.word.now w
+
+  its_word : (table : List (Row V)) (r : Row V) → find test table ≡ Some r → r.word.now ≡ w
+  its_word [] r e = absurd (let z : ◌≡◌ {A = ℕ} 0 1 = cc in omega arith)
+  its_word (x ∷ xs) r e =
+      split (test x)
+      (λ t. let h : x ≡ r = cc in subst (λ (y : Row V). y.word.now ≡ w) h ((bytes_eq-Decides x.word.now w).0 t))
+      (λ t. let h : find test xs ≡ Some r = sym (ap (λ (o : Bool). cond o (Some x) (find test xs)) t) ∙ e in its_word xs r h)
+
+  first_found : (front back : List (Row V)) (r : Row V) → All (λ x. x.word.now ≢ w) front → r.word.now ≡ w → find test (front ++ (r ∷ back)) ≡ Some r
+  first_found [] back r none e = ap (λ (o : Bool). cond o (Some r) (find test back)) ((bytes_eq-Decides r.word.now w).1 e)
+  first_found (x ∷ xs) back r none e =
+      split (test x)
+      (λ t. absurd (none 0 x (omega arith) ((bytes_eq-Decides x.word.now w).0 t)))
+      (λ t. ap (λ (o : Bool). cond o (Some x) (find test (xs ++ (r ∷ back)))) t ∙ first_found xs back r (λ k d h. none (suc k) d (omega (arith, h))) e)
+
+  pub by_word : (table : List (Row V)) → ByWord table w
+  by_word table =
+      record {
+        just = (λ l. bytes_eq-Decides l w);
+        apart = (λ l v e f. sym ((bytes_eq-Decides l v).0 f) ∙ (bytes_eq-Decides l w).0 e);
+        found = its_word table;
+        first = (λ front back r cut none e. ap (find test) cut ∙ first_found front back r none e);
+      }
 
 -- what every row has, the row of any word has
 module _ {R : Type 0} (P : R → Type 0) where

@@ -1,6 +1,8 @@
 -- A table of commands: a word and its row, whatever rows a program has. Assumes nothing.
 use Rattle.std.specs.Borrow.{Bor}
-use Rattle.std.specs.Prelude.{ℕ, ◌≤◌, ◌≡◌, cond, List, [], ◌∷◌, map, ltb, length, Option, Some, None, option_map, option_copied, Result, Ok, Err}
+use Rattle.std.specs.Prelude.{ℕ, ◌≤◌, ◌≡◌, ◌≢◌, true, cond, List, [], ◌∷◌, ◌++◌, map, ltb, length, Option, Some, None, option_map, option_copied, Result, Ok, Err}
+use Rattle.std.specs.Bool.{Decides}
+use Rattle.std.specs.List.{All, find}
 use Rattle.std.specs.Str.{bytes_eq}
 use Rattle.words.specs.Args.{Form, forms_of, Said, unknown, long, argued, room_for, GivenFits}
 use Rattle.words.specs.declared.args.Refusal.{Refusal}
@@ -78,3 +80,14 @@ verb_asked (Err e) = e.verb
 abbrev pub Asks : {V : Type 0} → Option (Command V) → Asked V → Type 0
 Asks None a = ⊥
 Asks (Some c) a = (a.verb ≡ c.0) × (length c.2 ≤ 3) × GivenFits c.2 a.given
+
+-- ---- what is found for a word w
+
+-- a word of a table is found just where it is w, so that no two words are taken for one another; the row that is found has the word w; and a row
+-- that has it is found, unless one before it has it too
+pub record ByWord {V : Type 0} (table : List (Row V)) (w : List ℕ) : Type 0 where
+  pub just : (l : List ℕ) → Decides (bytes_eq l w) (l ≡ w)
+  pub apart : (l v : List ℕ) → bytes_eq l w ≡ true → bytes_eq l v ≡ true → v ≡ w
+  pub found : (r : Row V) → find (λ x. bytes_eq x.word.now w) table ≡ Some r → r.word.now ≡ w
+  pub first : (front back : List (Row V)) (r : Row V) → table ≡ front ++ (r ∷ back) → All (λ x. x.word.now ≢ w) front → r.word.now ≡ w
+      → find (λ x. bytes_eq x.word.now w) table ≡ Some r
