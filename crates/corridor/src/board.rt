@@ -187,9 +187,11 @@ impl Board {
     {
         match asked_of(line, bytes) {
             Ok(asked) => self.obey(answer, bytes, asked),
-            Err(Refusal::Unknown) => Answer::NoSuchCommand,
-            Err(Refusal::Wrong) => Answer::NotSoWritten,
-            Err(Refusal::Long) => Answer::TooLong,
+            Err(refused) => match refused.refusal {
+                Refusal::Unknown => Answer::NoSuchCommand,
+                Refusal::Wrong => Answer::NotSoWritten,
+                Refusal::Long => Answer::TooLong,
+            },
         }
     }
 }

@@ -1,18 +1,18 @@
 -- Laws of what a line says. Assumes nothing.
 use Prim.Native.Nat.{ℕ, ◌<◌}
-use mathlib.Core.Path.{◌≡◌}
+use mathlib.Core.Path.{◌≡◌, ap, ◌∙◌}
 use mathlib.Core.List.{List}
 use borrow.Author.Rules.{rules}
 use lib.ListN.{length}
-use Rattle.std.specs.Prelude.{Result, Ok, Err, IfOk}
+use Rattle.std.specs.Prelude.{Option, unwrap_or, Result, Ok, Err, IfOk}
 use Rattle.words.specs.Word.{first_of}
 use Rattle.words.specs.Args.{long, GivenFits}
-use Rattle.words.specs.Rows.{Command, TableFits, Asks}
+use Rattle.words.specs.Rows.{Command, TableFits, verb_by, verb_asked, Asks}
 use Rattle.words.specs.declared.args.Given.{Given}
-use Rattle.words.specs.declared.args.Refusal.{Refusal}
 use Rattle.words.specs.declared.rows.Asked.{Asked}
-use Rattle.words.proofs.Tables.{too_long_lem, Each, asked_verb, asked_allowed, ◌and◌}
-use Rattle.jobs.specs.Said.{commands, row_of, verb_of, said_of, sent_room, AskedFits}
+use Rattle.words.specs.declared.rows.Refused.{Refused}
+use Rattle.words.proofs.Tables.{too_long_lem, Each, verb_or_other, asked_allowed, ◌and◌}
+use Rattle.jobs.specs.Said.{commands, row_of, verb_of, verb_said, said_of, sent_room, AskedFits}
 use Rattle.jobs.specs.declared.read.Verb.{Verb}
 use Rattle.jobs.specs.declared.read.Verb.TheVariants as verb
 
@@ -32,11 +32,10 @@ rows_fit = (λ g f. tt) and (λ g f. tt) and (λ g f. tt) and tt
 
 -- ---- what was asked for
 
-pub verb_told : (w : List ℕ) (r : Result (Asked Verb) Refusal) → IfOk r (λ a. Asks (row_of (first_of w)) a) → IfOk r (λ a. a.verb ≡ verb_of w)
-verb_told w (Ok a) h = asked_verb verb.Help (row_of (first_of w)) a h
-verb_told w (Err e) h = tt
+pub verb_told : (w : List ℕ) (r : Result (Asked Verb) (Refused Verb)) → verb_asked r ≡ verb_by (row_of (first_of w)) → verb_said r ≡ verb_of w
+verb_told w r h = ap (λ (v : Option Verb). unwrap_or v verb.Help) h ∙ verb_or_other verb.Help (row_of (first_of w))
 
-pub fits_told : (w : List ℕ) (r : Result (Asked Verb) Refusal) → IfOk r (λ a. Asks (row_of (first_of w)) a) → IfOk r (λ a. AskedFits a)
+pub fits_told : (w : List ℕ) (r : Result (Asked Verb) (Refused Verb)) → IfOk r (λ a. Asks (row_of (first_of w)) a) → IfOk r (λ a. AskedFits a)
 unfolding row_of
 fits_told w (Ok a) h =
     let f = asked_allowed (λ v g. Unit) sent_room commands table_fits rows_fit (first_of w) a h in

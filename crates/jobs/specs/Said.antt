@@ -1,10 +1,11 @@
 -- What a line of the workshop program says: the first column of the table of its lines. Assumes nothing.
-use Rattle.std.specs.Prelude.{ℕ, ◌≤◌, ◌≡◌, List, [], ◌∷◌, take, get_or, Option}
+use Rattle.std.specs.Prelude.{ℕ, ◌≤◌, ◌≡◌, List, [], ◌∷◌, take, get_or, Option, unwrap_or, Result}
 use Rattle.words.specs.Text.{text}
 use Rattle.words.specs.Word.{first_of}
 use Rattle.words.specs.Args.{Form, number, dashed, Said}
-use Rattle.words.specs.Rows.{Named, asks, row_in, Command, verb_in, said_in}
+use Rattle.words.specs.Rows.{Named, asks, row_in, Command, verb_by, verb_in, said_in, verb_asked}
 use Rattle.words.specs.declared.rows.Asked.{Asked}
+use Rattle.words.specs.declared.rows.Refused.{Refused}
 use Rattle.jobs.specs.declared.read.Verb.{Verb}
 use Rattle.jobs.specs.declared.read.Verb.TheVariants as verb
 
@@ -38,9 +39,17 @@ row_of w = row_in commands w
 
 -- ---- a whole line
 
+-- the verb of the command that a line names, also where the line is too long, or not how its command is written
+abbrev pub verb_named : List ℕ → Option Verb
+verb_named line = verb_by (row_of (first_of line))
+
 -- of a line that names no command the verb means nothing
 abbrev pub verb_of : List ℕ → Verb
 verb_of line = verb_in verb.Help (row_of (first_of line))
+
+-- the verb that is handed out, which means nothing where there is none
+abbrev pub verb_said : Result (Asked Verb) (Refused Verb) → Verb
+verb_said r = unwrap_or (verb_asked r) verb.Help
 
 -- "18,597 characters; a longer one is too long"
 abbrev pub said_of : List ℕ → Said

@@ -1,11 +1,11 @@
 // Reading a line: the command that its first word names, and its arguments.
 ghost use Rattle.std.specs.Prelude.{◌≡◌, IfOk};
 ghost use Rattle.words.specs.Args.{said_by};
-ghost use Rattle.words.specs.Rows.{given_of};
-ghost use Rattle.lines.specs.Said.{verb_of, said_of, AskedFits};
+ghost use Rattle.words.specs.Rows.{given_of, verb_asked};
+ghost use Rattle.lines.specs.Said.{verb_named, verb_said, verb_of, said_of, AskedFits};
 
-use words::args::{Kind, Refusal};
-use words::rows::{Asked, Row};
+use words::args::Kind;
+use words::rows::{Asked, Refused, Row};
 use words::word::Numeral;
 
 // Room for the bytes of an image or of a frame, from its start.
@@ -179,9 +179,10 @@ static COMMANDS: [Row<Verb>; 16] = [
 ];
 
 // What a line asks for.
-pub fn asked_of(text: &[u8], bytes: &mut Sent) -> Result<Asked<Verb>, Refusal>
+pub fn asked_of(text: &[u8], bytes: &mut Sent) -> Result<Asked<Verb>, Refused<Verb>>
     ensures asked_fits { IfOk result (λ a. AskedFits a) }
-    ensures verb { IfOk result (λ a. a.verb ≡ verb_of text.now) }
+    ensures named { verb_asked result ≡ verb_named text.now }
+    ensures verb { verb_said result ≡ verb_of text.now }
     ensures said { said_by (given_of result) bytes.new ≡ said_of text.now }
 {
     words::rows::asked_of(&COMMANDS, LONGEST, text, bytes)

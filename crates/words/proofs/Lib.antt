@@ -1,3 +1,4 @@
 pub mod Reading
 pub mod Arguing
 pub mod Tables
+pub mod Packing

@@ -42,15 +42,10 @@ module _ (base most : ℕ) where
           let a : n * 1 ≤ n * base = mul-le-mul_left n (let z : 1 ≤ base = omega arith in z) in
           rest (n * base + d) (omega arith)
 
-  one_digit : (w : List ℕ) (n : ℕ) (d : Option ℕ) → most < n → ((m : ℕ) → most < m → capped (value_from base m w) ≡ None)
-      → capped (option_and_then (λ m. value_from base m w) (option_and_then (longer base n) d)) ≡ None
-  one_digit w n None h rest = refl
-  one_digit w n (Some d) h rest = one_longer w n d h rest
-
   pub value_large : (w : List ℕ) (n : ℕ) → most < n → capped (value_from base n w) ≡ None
   unfolding value_from with_digit
   value_large [] n h = simp (lt-leb n most h)
-  value_large (b ∷ r) n h = one_digit r n (digit_of b) h (λ m k. value_large r m k)
+  value_large (b ∷ r) n h = one_longer r n (unwrap_or (digit_of b) 16) h (λ m k. value_large r m k)
 
 module _ (w : List ℕ) (base i n : ℕ) (test : i < length w) where
   -- one digit further

@@ -38,9 +38,9 @@ digit_of b =
 abbrev pub longer : ℕ → ℕ → ℕ → Option ℕ
 longer base n d = cond (ltb d base) (Some (n * base + d)) None
 
--- a number n with the digit that a byte is behind it; none, where it is no digit of the base
+-- a number n with the digit that a byte is behind it; none, where it is no digit of the base. A byte that is no digit counts as 16.
 unfoldable pub with_digit : ℕ → ℕ → ℕ → Option ℕ
-with_digit base n b = option_and_then (longer base n) (digit_of b)
+with_digit base n b = longer base n (unwrap_or (digit_of b) 16)
 
 unfoldable pub value_from : ℕ → ℕ → List ℕ → Option ℕ
 value_from base n [] = Some n

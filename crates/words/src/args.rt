@@ -1,8 +1,10 @@
 // The arguments of a line: what kinds there are, and the one loop that reads them.
-ghost use Rattle.std.specs.Prelude.{◌≡◌, ◌+◌, ◌≤◌, length, take, IfSome, IfOk};
+ghost use Rattle.std.specs.Prelude.{◌≡◌, ◌+◌, ◌≤◌, length, take, IfSome, IsSomeAnd, IfOk};
 ghost use Rattle.words.specs.Word.{behind, reads, ArgFits};
 ghost use Rattle.words.specs.Args.{either_of, dashed_in, value_of, form_of, forms_of, most_of, room_of, room_for, argued, said_by, GivenFits};
+ghost use Rattle.words.specs.Rows.{command_of, command_in, said_in, CommandFits};
 
+use crate::rows::Row;
 use crate::word::{Arg, Numeral, bytes_in, number_in, word_end};
 
 // What an argument is: a number; one of two words, the first as 0 and the second as 1; bytes, at most so many; bytes, or `-` for none.
@@ -81,7 +83,7 @@ fn arg_of(kind: Kind, word: &[u8], bytes: &mut [u8], at: usize) -> Option<Arg>
 
 // The arguments of a line of a command that needs so many of them.
 #[tactic(auto, using(crate::proofs::Arguing::bad_said, crate::proofs::Arguing::many_said, crate::proofs::Arguing::few_said))]
-pub fn args_of(
+pub fn gather(
     needed: usize,
     kinds: &[Kind],
     text: &[u8],
@@ -114,4 +116,23 @@ pub fn args_of(
         return Err(Refusal::Wrong);
     }
     Ok(given)
+}
+
+// The arguments of a line of at most `longest` characters whose first word has this row, or none.
+#[tactic(auto, using(crate::proofs::Tables::long_said))]
+pub fn args_of<V: Copy>(
+    row: Option<&Row<V>>,
+    longest: usize,
+    text: &[u8],
+    bytes: &mut [u8],
+) -> Result<Given, Refusal>
+    requires { IfSome row (λ r. CommandFits (length bytes.old) (command_of r.now)) }
+    ensures given_fits { IfOk result (λ g. IsSomeAnd row.entry (λ r. GivenFits (forms_of r.now.kinds.now) g)) }
+    ensures bytes_after { said_by result bytes.new ≡ said_in longest (command_in row.entry) text.now }
+{
+    if text.len() > longest {
+        return Err(Refusal::Long);
+    }
+    let row = row.ok_or(Refusal::Unknown)?;
+    gather(row.needed, row.kinds, text, bytes)
 }

@@ -4,12 +4,13 @@ ghost use Rattle.std.specs.List.{find};
 ghost use Rattle.std.specs.Str.{bytes_eq};
 ghost use Rattle.words.specs.Word.{first_of};
 ghost use Rattle.words.specs.Args.{said_by};
-ghost use Rattle.words.specs.Rows.{rows_of, row_in, said_in, given_of, Asks, TableFits};
+ghost use Rattle.words.specs.Rows.{rows_of, row_in, verb_by, verb_asked, said_in, given_of, Asks, TableFits};
 
 use crate::args::{Given, Kind, Refusal, args_of};
 use crate::word::word_end;
 
 // A command: its word, its verb, how many of its arguments must be there, and what each is.
+#[derive(Clone, Copy)]
 pub struct Row<V> {
     pub word: &'static [u8],
     pub verb: V,
@@ -24,6 +25,13 @@ pub struct Asked<V> {
     pub given: Given,
 }
 
+// Why a line is refused, and the verb of its first word, where a row has that word.
+#[derive(Clone, Copy)]
+pub struct Refused<V> {
+    pub refusal: Refusal,
+    pub verb: Option<V>,
+}
+
 // The row of a word.
 fn row_of<'a, V: Copy>(table: &'a [Row<V>], word: &[u8]) -> Option<&'a Row<V>>
     ensures { option_copied result ≡ find (λ r. bytes_eq r.word.now word.now) table.now }
@@ -32,24 +40,25 @@ fn row_of<'a, V: Copy>(table: &'a [Row<V>], word: &[u8]) -> Option<&'a Row<V>>
 }
 
 // What a line of at most `longest` characters asks for.
-#[tactic(auto, using(crate::proofs::Tables::long_said))]
 pub fn asked_of<V: Copy>(
     table: &[Row<V>],
     longest: usize,
     text: &[u8],
     bytes: &mut [u8],
-) -> Result<Asked<V>, Refusal>
+) -> Result<Asked<V>, Refused<V>>
     requires { TableFits (length bytes.old) (rows_of table.now) }
     ensures asks { IfOk result (λ a. Asks (row_in (rows_of table.now) (first_of text.now)) a) }
+    ensures verb { verb_asked result ≡ verb_by (row_in (rows_of table.now) (first_of text.now)) }
     ensures said { said_by (given_of result) bytes.new ≡ said_in longest (row_in (rows_of table.now) (first_of text.now)) text.now }
 {
-    if text.len() > longest {
-        return Err(Refusal::Long);
+    let row = row_of(table, &text[..word_end(text, 0)]);
+    let verb = row.map(|row| row.verb);
+    match args_of(row, longest, text, bytes) {
+        // only the line of a command has arguments
+        Ok(given) => Ok(Asked {
+            verb: verb.unwrap(),
+            given,
+        }),
+        Err(refusal) => Err(Refused { refusal, verb }),
     }
-    let row = row_of(table, &text[..word_end(text, 0)]).ok_or(Refusal::Unknown)?;
-    let given = args_of(row.needed, row.kinds, text, bytes)?;
-    Ok(Asked {
-        verb: row.verb,
-        given,
-    })
 }

@@ -43,12 +43,12 @@ fn digit(b: u8) -> Option<u8>
     }
 }
 
-// A number with the digit that a byte is behind it.
+// A number with the digit that a byte is behind it. A byte that is no digit counts as 16, which is none of a base of at most 16.
 #[tactic(auto, unfolding(crate::specs::Word::with_digit))]
 fn with_digit(n: u32, base: u8, b: u8) -> Option<u64>
     ensures { result ≡ with_digit base n b }
 {
-    let d = digit(b)?;
+    let d = digit(b).unwrap_or(16);
     if d < base {
         Some(u64::from(n) * u64::from(base) + u64::from(d))
     } else {

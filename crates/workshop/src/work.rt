@@ -65,8 +65,10 @@ pub fn answer_to(line: &[u8], bytes: &mut Sent) -> Answer
 {
     match asked_of(line, bytes) {
         Ok(asked) => work(bytes, asked),
-        Err(Refusal::Unknown) => Answer::NoSuchCommand,
-        Err(Refusal::Wrong) => Answer::NotSoWritten,
-        Err(Refusal::Long) => Answer::TooLong,
+        Err(refused) => match refused.refusal {
+            Refusal::Unknown => Answer::NoSuchCommand,
+            Refusal::Wrong => Answer::NotSoWritten,
+            Refusal::Long => Answer::TooLong,
+        },
     }
 }

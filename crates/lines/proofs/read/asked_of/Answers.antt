@@ -7,9 +7,13 @@ pub returns-clause-asked_fits : goal.returns-clause-asked_fits
 unfolding commands row_of
 returns-clause-asked_fits c = fits_told c.args.text.now _ c.asked_of.ensures.asks
 
+pub returns-clause-named : goal.returns-clause-named
+unfolding commands row_of
+returns-clause-named c = c.asked_of.ensures.verb
+
 pub returns-clause-verb : goal.returns-clause-verb
 unfolding commands row_of
-returns-clause-verb c = verb_told c.args.text.now _ c.asked_of.ensures.asks
+returns-clause-verb c = verb_told c.args.text.now c.asked_of.result c.asked_of.ensures.verb
 
 pub returns-clause-said : goal.returns-clause-said
 unfolding commands row_of

@@ -1,34 +1,39 @@
 -- `words::rows::asked_of` meets its contract. Assumes nothing.
 use borrow.Author.Rules.{rules}
-use mathlib.Core.Path.{ap, ◌∙◌}
-use Rattle.std.specs.Result.{result_ok}
-use Rattle.words.proofs.Tables.{row_found, unknown_said, fits, known_said, refused_said, asks_it, allowed}
+use mathlib.Core.Path.{◌≡◌, sym, ◌∙◌}
+use Rattle.std.specs.Prelude.{option_map}
+use Rattle.words.proofs.Tables.{row_found, row_fits, row_said, row_verb, asks_it}
 use Rattle.words.proofs.rows.asked_of.Goals as goal
 
-pub returns-in_err-row-clause-said : goal.returns-in_err-row-clause-said
-returns-in_err-row-clause-said g c =
-    let found = row_found _ c.args.text.now _ _ c.row_of.ensures (search rules) in
-    unknown_said _ _ _ _ found _ _ (search rules) (c.ok_or.ensures.ok_part ∙ ap result_ok c.in_err-row.was) (search rules)
-
 pub args_of-requires : goal.args_of-requires
-args_of-requires g c =
-    let found = row_found _ c.args.text.now _ _ c.row_of.ensures (search rules) in
-    let fit = fits _ c.args.longest _ _ found _ (c.ok_or.ensures.ok_part ∙ ap result_ok c.in_ok-row.was) _ c.requires in
-    record { few = fit.0; room = fit.1 }
+args_of-requires g c = row_fits _ c.args.text.now _ _ (row_found _ _ _ _ c.row_of-row.ensures (search rules)) c.requires
 
-pub returns-in_err-given-clause-said : goal.returns-in_err-given-clause-said
-returns-in_err-given-clause-said g c =
-    let found = row_found _ c.args.text.now _ _ c.row_of.ensures (search rules) in
-    known_said _ _ _ _ found _ (c.ok_or.ensures.ok_part ∙ ap result_ok c.in_ok-row.was) _ (search rules)
-    (refused_said _ _ c.in_err-given.field-0.0 _ _ (search rules) c.in_err-given.was c.args_of.ensures.bytes_after)
+pub returns-in-Ok-clause-asks : goal.returns-in-Ok-clause-asks
+returns-in-Ok-clause-asks g c =
+    let verb : c.map-verb.result ≡ option_map (λ r. r.now.verb) c.row_of-row.result = search rules in
+    let found = row_found _ c.args.text.now _ _ c.row_of-row.ensures (search rules) in
+    asks_it _ _ _ _ _ found c.requires (sym c.unwrap.ensures ∙ verb) c.in-Ok.ensures.given_fits
 
-pub returns-clause-asks : goal.returns-clause-asks
-returns-clause-asks g c =
-    let found = row_found _ c.args.text.now _ _ c.row_of.ensures (search rules) in
-    asks_it _ c.args.longest _ _ found _ (c.ok_or.ensures.ok_part ∙ ap result_ok c.in_ok-row.was) _ _ c.requires (search rules)
-    (allowed _ _ _ c.in_ok-given.was c.args_of.ensures.given_fits)
+pub returns-in-Ok-clause-verb : goal.returns-in-Ok-clause-verb
+returns-in-Ok-clause-verb g c =
+    let verb : c.map-verb.result ≡ option_map (λ r. r.now.verb) c.row_of-row.result = search rules in
+    let found = row_found c.args.table.now c.args.text.now _ _ c.row_of-row.ensures (search rules) in
+    let told = row_verb _ _ _ _ found verb in
+    search (c.unwrap.ensures, told, rules)
 
-pub returns-clause-said : goal.returns-clause-said
-returns-clause-said g c =
-    let found = row_found _ c.args.text.now _ _ c.row_of.ensures (search rules) in
-    known_said _ _ _ _ found _ (c.ok_or.ensures.ok_part ∙ ap result_ok c.in_ok-row.was) _ (search rules) (search (c.in_ok-given.was, c.args_of.ensures.bytes_after, rules))
+pub returns-in-Ok-clause-said : goal.returns-in-Ok-clause-said
+returns-in-Ok-clause-said g c =
+    let found = row_found _ c.args.text.now _ _ c.row_of-row.ensures (search rules) in
+    row_said _ _ _ _ _ found c.in-Ok.ensures.bytes_after
+
+pub returns-in-Err-clause-verb : goal.returns-in-Err-clause-verb
+returns-in-Err-clause-verb g c =
+    let verb : c.map-verb.result ≡ option_map (λ r. r.now.verb) c.row_of-row.result = search rules in
+    let found = row_found c.args.table.now c.args.text.now _ _ c.row_of-row.ensures (search rules) in
+    let told = row_verb _ _ _ _ found verb in
+    search (told, rules)
+
+pub returns-in-Err-clause-said : goal.returns-in-Err-clause-said
+returns-in-Err-clause-said g c =
+    let found = row_found _ c.args.text.now _ _ c.row_of-row.ensures (search rules) in
+    row_said _ _ _ _ _ found c.in-Err.ensures.bytes_after

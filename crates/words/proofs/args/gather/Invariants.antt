@@ -1,10 +1,10 @@
--- `words::args::args_of` meets its contract. Assumes nothing.
+-- `words::args::gather` meets its contract. Assumes nothing.
 use Prim.Native.Nat.{◌≤◌, ◌+◌, ◌-◌}
 use lib.ListN.{length, take, drop}
 use mathlib.Core.Path.{◌≡◌}
 use Rattle.words.specs.Args.{forms_of, room_for, Bounded}
 use Rattle.words.proofs.Arguing.{Sofar}
-use Rattle.words.proofs.args.args_of.Given as goal
+use Rattle.words.proofs.args.gather.Given as goal
 
 abbrev pub invariant-loop-at : goal.invariant-loop-at
 invariant-loop-at l = (l.given.count ≤ length l.kinds)
