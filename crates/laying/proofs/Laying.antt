@@ -24,12 +24,11 @@ hex_append : (xs ys : List ℕ) → hex_of (xs ++ ys) ≡ hex_of xs ++ hex_of ys
 hex_append [] ys = refl
 hex_append (x ∷ xs) ys = ap (λ (l : List ℕ). hex_char (x / 16) ∷ hex_char (x % 16) ∷ l) (hex_append xs ys)
 
--- one more byte is laid: its high digit, and then its low one
-pub hex_more : (bytes start before mid after : List ℕ) (i high low : ℕ) → i < length bytes → before ≡ start ++ hex_of (take i bytes)
-    → high ≡ hex_char (get_or bytes i 0 / 16) → low ≡ hex_char (get_or bytes i 0 % 16) → mid ≡ before ++ high ∷ [] → after ≡ mid ++ low ∷ []
-    → after ≡ start ++ hex_of (take (i + 1) bytes)
-hex_more bytes start before mid after i high low below b h l m a =
-    rw (a, m, b, h, l, take_more bytes i 0 below, hex_append (take i bytes) (get_or bytes i 0 ∷ [])) (simp append_assoc)
+-- one more byte is laid
+pub one_more : (bytes start before after : List ℕ) (i : ℕ) → i < length bytes → before ≡ start ++ hex_of (take i bytes)
+    → after ≡ before ++ hex_of (get_or bytes i 0 ∷ []) → after ≡ start ++ hex_of (take (i + 1) bytes)
+one_more bytes start before after i below b a =
+    rw (a, b, take_more bytes i 0 below, hex_append (take i bytes) (get_or bytes i 0 ∷ [])) (append_assoc start (hex_of (take i bytes)) (hex_of (get_or bytes i 0 ∷ [])))
 
 -- ---- parts
 
