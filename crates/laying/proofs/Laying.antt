@@ -1,8 +1,11 @@
 -- Laws of laying parts. Assumes nothing.
-use Rattle.std.proofs.Common.{◌≡◌, ℕ, ◌+◌, ◌*◌, ◌/◌, ◌%◌, ◌^◌, ◌<◌, ◌≤◌, List, [], ◌∷◌, ◌++◌, length, get_or, take, drop, refl, ap, sym, ◌∙◌, append_assoc, length-append, arith, rules, zero, suc, true, false}
+use Rattle.std.proofs.Common.{◌≡◌, ℕ, ◌+◌, ◌*◌, ◌/◌, ◌%◌, ◌^◌, ◌<◌, ◌≤◌, List, [], ◌∷◌, ◌++◌, length, get_or, take, drop, refl, ap, sym, ◌∙◌, append_assoc, length-append, arith, rules, zero, suc, true, false, add-one}
 use Rattle.std.specs.Fmt.{decimal as std_decimal}
 use Rattle.std.proofs.lemmas.Fmt.{decimal_from_appends, AppendsLastDigit, length-decimal-le}
-use Rattle.std.proofs.lemmas.List.{take_more, at_drop_more}
+use borrow.Author.Count.{below_more}
+use Rattle.std.proofs.lemmas.List.{take_more, at_drop_more, take-append-drop, take_all, get_or-set_same, get_or-set_other}
+use Rattle.std.proofs.Math.ListN.{set, length-set}
+use Rattle.std.proofs.Math.Seq.{take-suc-set}
 use Rattle.std.specs.Prelude.{ltb}
 use Rattle.basics.proofs.Choice.{by}
 use Rattle.basics.specs.Hex.{hex_char, hex_of}
@@ -24,18 +27,56 @@ hex_append : (xs ys : List ℕ) → hex_of (xs ++ ys) ≡ hex_of xs ++ hex_of ys
 hex_append [] ys = refl
 hex_append (x ∷ xs) ys = ap (λ (l : List ℕ). hex_char (x / 16) ∷ hex_char (x % 16) ∷ l) (hex_append xs ys)
 
--- one more byte is laid: its high digit, and then its low one
-pub hex_more : (bytes start before mid after : List ℕ) (i high low : ℕ) → i < length bytes → before ≡ start ++ hex_of (take i bytes)
-    → high ≡ hex_char (get_or bytes i 0 / 16) → low ≡ hex_char (get_or bytes i 0 % 16) → mid ≡ before ++ high ∷ [] → after ≡ mid ++ low ∷ []
-    → after ≡ start ++ hex_of (take (i + 1) bytes)
-hex_more bytes start before mid after i high low below b h l m a =
-    rw (a, m, b, h, l, take_more bytes i 0 below, hex_append (take i bytes) (get_or bytes i 0 ∷ [])) (simp append_assoc)
+-- one more number is stored, behind those so far
+pub one_stored : (f : ℕ → ℕ) (xs : List ℕ) (i x : ℕ) → i < length xs → x ≡ f i → ((j : ℕ) → j < i → get_or xs j 0 ≡ f j)
+    → (j : ℕ) → j < i + 1 → get_or (set xs i x) j 0 ≡ f j
+one_stored f xs i x below e before =
+    below_more (λ (j : ℕ). get_or (set xs i x) j 0 ≡ f j) i (λ j h. get_or-set_other xs i j x 0 (omega arith) ∙ before j h) (get_or-set_same xs i x 0 below ∙ e)
 
--- ---- parts
+-- one byte stored at the end of what is laid lengthens it
+stored : (text front : List ℕ) (to x : ℕ) → to < length text → take to text ≡ front → take (to + 1) (set text to x) ≡ front ++ (x ∷ [])
+stored text front to x h e = ap (λ (k : ℕ). take k (set text to x)) (add-one to) ∙ take-suc-set text to x h ∙ ap (λ (l : List ℕ). l ++ (x ∷ [])) e
+
+-- the digits of one more byte are stored, its high one and then its low one
+pub pair_laid : (text bytes : List ℕ) (to next i high low : ℕ) → i < length bytes → to + 1 < length text → next ≡ to + 2
+    → high ≡ hex_char (get_or bytes i 0 / 16) → low ≡ hex_char (get_or bytes i 0 % 16) → take to text ≡ hex_of (take i bytes)
+    → take next (set (set text to high) (to + 1) low) ≡ hex_of (take (i + 1) bytes)
+pair_laid text bytes to next i high low below room step h l e =
+    let two : to + 1 < length (set text to high) = simp length-set (omega arith) in
+    let one_on : next ≡ to + 1 + 1 = omega arith in
+    rw one_on (
+    stored (set text to high) (hex_of (take i bytes) ++ (high ∷ [])) (to + 1) low two (stored text (hex_of (take i bytes)) to high (omega arith) e)
+    ∙ rw (h, l, take_more bytes i 0 below, hex_append (take i bytes) (get_or bytes i 0 ∷ [])) (simp append_assoc)
+    )
+
+-- the digits of all bytes are made
+pub all_made : (digits bytes : List ℕ) (i n : ℕ) → i ≡ n → length bytes ≡ n → take (2 * i) digits ≡ hex_of (take i bytes)
+    → take (2 * n) digits ≡ hex_of bytes
+all_made digits bytes i n all b e = rw (← all) (e ∙ ap hex_of (take_all i bytes (omega arith)))
+
+-- the first bytes of a list are laid, and those behind them are left
+pub chunk_more : (rest some behind before after whole digits : List ℕ) (n : ℕ) → some ≡ take n rest → behind ≡ drop n rest → digits ≡ hex_of some
+    → after ≡ before ++ digits → before ++ hex_of rest ≡ whole → after ++ hex_of behind ≡ whole
+chunk_more rest some behind before after whole digits n s h d a b =
+    rw (a, d, s, h, append_assoc before (hex_of (take n rest)) (hex_of (drop n rest)), ← hex_append (take n rest) (drop n rest), take-append-drop n rest) b
 
 length-hex : (xs : List ℕ) → length (hex_of xs) ≡ 2 * length xs
 length-hex [] = refl
 length-hex (x ∷ xs) = let h : length (hex_of xs) ≡ 2 * length xs = length-hex xs in omega arith
+
+-- what is laid and the room for what is left stay as many
+pub same_room : (before rest after behind whole : List ℕ) → before ++ hex_of rest ≡ whole → after ++ hex_of behind ≡ whole
+    → length after + 2 * length behind ≡ length before + 2 * length rest
+same_room before rest after behind whole b a =
+    omega (arith, length-hex rest, length-hex behind, simp length-append at (ap length b), simp length-append at (ap length a))
+
+-- one more byte is laid
+pub one_more : (bytes start before after : List ℕ) (i : ℕ) → i < length bytes → before ≡ start ++ hex_of (take i bytes)
+    → after ≡ before ++ hex_of (get_or bytes i 0 ∷ []) → after ≡ start ++ hex_of (take (i + 1) bytes)
+one_more bytes start before after i below b a =
+    rw (a, b, take_more bytes i 0 below, hex_append (take i bytes) (get_or bytes i 0 ∷ [])) (append_assoc start (hex_of (take i bytes)) (hex_of (get_or bytes i 0 ∷ [])))
+
+-- ---- parts
 
 length-decimal_in-le : (most n : ℕ) → length (decimal_in most n) ≤ most
 length-decimal_in-le zero n = omega arith

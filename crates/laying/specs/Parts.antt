@@ -1,6 +1,7 @@
 -- An answer as a list of parts, and the line that they are. Assumes nothing.
-use Rattle.std.specs.Prelude.{ℕ, zero, suc, ◌+◌, ◌*◌, ◌/◌, ◌%◌, ◌≡◌, Bool, cond, List, [], ◌∷◌, ◌++◌, ltb, length}
+use Rattle.std.specs.Prelude.{ℕ, zero, suc, ◌+◌, ◌*◌, ◌/◌, ◌%◌, ◌≡◌, Bool, cond, List, [], ◌∷◌, ◌++◌, ltb, length, take}
 use Rattle.basics.specs.Hex.{hex_of}
+use Rattle.laying.specs.declared.Letters.{Letters}
 use Rattle.laying.specs.declared.Part.{Part as Laying}
 use Rattle.laying.specs.declared.Part.TheVariants as laying
 
@@ -20,6 +21,10 @@ tail_of (b ∷ r) = 32 ∷ hex_of (b ∷ r)
 -- "HHHH": a number of sixteen bits as four hex digits, its high byte first
 abbrev pub four_of : ℕ → List ℕ
 four_of n = hex_of (n / 256 ∷ n % 256 ∷ [])
+
+-- the letters of a word that stands in an array with their count
+abbrev pub letters_of : Letters → List ℕ
+letters_of w = take w.0 w.1
 
 -- fixed words; fixed words where a flag is set, or nothing; a number; four hex digits; bytes in hex; bytes in hex behind a space, or nothing
 pub data Part : Type 0 where
