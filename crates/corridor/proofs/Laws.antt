@@ -16,14 +16,17 @@ use Rattle.image.specs.Layout.{size_of}
 use Rattle.tag.specs.Outcome.{Reply, bits_of, answer_of, over}
 use Rattle.tag.specs.State.{field_off}
 use Rattle.tag.specs.declared.record.TagRecord.{TagRecord}
-use Rattle.tag.specs.Record.{record_of, field_loss}
+use Rattle.tag.specs.declared.state.State.{State}
+use Rattle.tag.specs.declared.state.Tag.{Tag}
+use Rattle.tag.specs.Record.{tag_of, record_of, field_loss}
 use Rattle.tag.proofs.Laws.{answer_bytes}
 use Rattle.radio.specs.declared.call.Answer as radio
 use Rattle.radio.specs.Call.{Called, called, Met}
 use Rattle.two_wire.specs.declared.record.BusRecord.{BusRecord}
 use Rattle.two_wire.specs.declared.event.BusStep.{BusStep}
 use Rattle.two_wire.specs.Region.{Lent, both}
-use Rattle.two_wire.specs.Record.{at_rest}
+use Rattle.two_wire.specs.declared.record.Phase.{Phase}
+use Rattle.two_wire.specs.Record.{phase_of, at_rest}
 use Rattle.two_wire.specs.Event.{by_event, by_memory, by_size, does, Did}
 use Rattle.words.specs.Args.{Said, given}
 use Rattle.words.specs.declared.rows.Asked.{Asked}
@@ -34,7 +37,7 @@ use Rattle.lines.specs.declared.write.Answer.{Answer}
 use Rattle.lines.specs.declared.write.Answer.TheVariants as answer
 use Rattle.lines.specs.Told as told
 use Rattle.lines.specs.Told.{Told, parts_of, bytes_in, tells, AnswerFits}
-use Rattle.corridor.specs.Played.{Board, zeros, opening, takes, lends, lends_memory, loses, recalls, call_told, hears, event_told, sees, answers, obeyed, played, program}
+use Rattle.corridor.specs.Played.{Board, zeros, opening, takes, lends, lends_memory, loses, recalls, state_told, tag_told, phase_told, bus_told, call_told, hears, event_told, sees, answers, obeyed, played, program}
 use Rattle.corridor.specs.Acts.{Says, Tells, Acts, Leaves}
 
 -- a buffer of zeros
@@ -216,3 +219,20 @@ module _ (b w b' : Board) (same : w ≡ b) (l buf img : List ℕ) (a : Answer) (
 
   pub answers_line : (out : List ℕ) → Line (parts_of (tells a buf img)) out → out ≡ program.answer b l
   answers_line out h = h.whole ∙ ap (λ (t : Told). line_text (parts_of t)) (here.told.told img front)
+
+-- ---- what is told of a record, and of no zeros
+
+-- the state that a record means is what is told of it
+pub state_told_lem : (rec : TagRecord) (t : Tag) (s : State) → t ≡ tag_of rec → t.state ≡ s → (r : Told) → r ≡ state_told s t.answered → r ≡ tag_told rec
+unfolding tag_told
+state_told_lem rec t s e f r h = h ∙ ap (λ (x : State). state_told x t.answered) (sym f) ∙ ap (λ (x : Tag). state_told x.state x.answered) e
+
+-- and so is the phase of a bus record
+pub phase_told_lem : (rec : BusRecord) (p : Phase) → p ≡ phase_of rec.phase → (q : Phase) (r : Told) → p ≡ q → r ≡ phase_told q rec → r ≡ bus_told rec
+unfolding bus_told
+phase_told_lem rec p e q r f h = h ∙ ap (λ (x : Phase). phase_told x rec) (sym f ∙ e)
+
+-- before the first zero was put none is there
+pub none_cleared_lem : (xs : List ℕ) → take 0 xs ≡ zeros 0
+unfolding zeros
+none_cleared_lem xs = refl

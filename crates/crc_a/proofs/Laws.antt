@@ -8,7 +8,7 @@ use native.Mathlib.Nat.{add-zero}
 use native.Mathlib.Numerals.{add-one}
 use native.Mathlib.Omega.{arith}
 use lib.ListN.{length, take, drop, get_or, set, length-append}
-use lib.Seq.{sets, take_at, get_or-append-add}
+use lib.Seq.{sets, take_at, drop-cons, get_or-append-add}
 use Rattle.std.proofs.lemmas.List.{take_rest}
 use borrow.Author.Tests.{le-leb, lt-leb, eq-eqb}
 use lib.Dec.{eqb}
@@ -57,6 +57,45 @@ pub none_last : (rest : List ℕ) (register : ℕ) → length rest < 1 → regis
 unfolding bytes_in
 none_last [] register l = refl
 none_last (b ∷ xs) register l = absurd (omega arith)
+
+-- ---- the same by place, of bytes that are counted by an index
+
+-- from the register so far, what is left from place i on comes to the whole's: a byte goes in, then two of them, then four
+pub byte_turn : (bytes : List ℕ) (i register next : ℕ) → i < length bytes → bytes_in register (drop i bytes) ≡ crc_a bytes → next ≡ byte_in register (get_or bytes i 0)
+    → bytes_in next (drop (i + 1) bytes) ≡ crc_a bytes
+unfolding bytes_in
+byte_turn bytes i register next l h e = rw (e, add-one) (ap (bytes_in register) (sym (drop-cons bytes i 0 l)) ∙ h)
+
+pub two_turn : (bytes : List ℕ) (i register next : ℕ) → i + 2 ≤ length bytes → bytes_in register (drop i bytes) ≡ crc_a bytes
+    → next ≡ byte_in (byte_in register (get_or bytes i 0)) (get_or bytes (i + 1) 0) → bytes_in next (drop (i + 2) bytes) ≡ crc_a bytes
+two_turn bytes i register next l h e =
+    let middle = byte_in register (get_or bytes i 0) in
+    let once : bytes_in middle (drop (i + 1) bytes) ≡ crc_a bytes = byte_turn bytes i register middle (omega arith) h refl in
+    let two : i + 2 ≡ i + 1 + 1 = omega arith in
+    ap (λ (k : ℕ). bytes_in next (drop k bytes)) two ∙ byte_turn bytes (i + 1) middle next (omega arith) once e
+
+pub four_turn : (bytes : List ℕ) (i register next : ℕ) → i + 4 ≤ length bytes → bytes_in register (drop i bytes) ≡ crc_a bytes
+    → next ≡ byte_in (byte_in (byte_in (byte_in register (get_or bytes i 0)) (get_or bytes (i + 1) 0)) (get_or bytes (i + 2) 0)) (get_or bytes (i + 3) 0)
+    → bytes_in next (drop (i + 4) bytes) ≡ crc_a bytes
+four_turn bytes i register next l h e =
+    let middle = byte_in (byte_in register (get_or bytes i 0)) (get_or bytes (i + 1) 0) in
+    let once : bytes_in middle (drop (i + 2) bytes) ≡ crc_a bytes = two_turn bytes i register middle (omega arith) h refl in
+    let three : i + 3 ≡ i + 2 + 1 = omega arith in
+    let four : i + 4 ≡ i + 2 + 2 = omega arith in
+    let e' : next ≡ byte_in (byte_in middle (get_or bytes (i + 2) 0)) (get_or bytes (i + 2 + 1) 0) = e ∙ ap (λ (k : ℕ). byte_in (byte_in middle (get_or bytes (i + 2) 0)) (get_or bytes k 0)) three in
+    ap (λ (k : ℕ). bytes_in next (drop k bytes)) four ∙ two_turn bytes (i + 2) middle next (omega arith) once e'
+
+-- where the fours end and two bytes or three are left, two more go in
+module _ (bytes : List ℕ) (whole i register after : ℕ) (w : whole ≡ length bytes - length bytes % 4) (l : i ≤ whole) (k : whole ≤ i)
+    (h : bytes_in register (drop i bytes) ≡ crc_a bytes) where
+  at_whole : i ≡ whole
+  at_whole = omega arith
+
+  pub two_more_lem : (next : ℕ) → 2 ≤ length bytes % 4 → next ≡ byte_in (byte_in register (get_or bytes whole 0)) (get_or bytes (whole + 1) 0) → after ≡ next
+      → bytes_in after (drop (length bytes - length bytes % 2) bytes) ≡ crc_a bytes
+  two_more_lem next m e f =
+      let even : length bytes - length bytes % 2 ≡ whole + 2 = omega arith in
+      rw (f, even) (two_turn bytes whole register next (omega arith) (ap (λ (x : ℕ). bytes_in register (drop x bytes)) (sym at_whole) ∙ h) e)
 
 -- ---- behind a buffer's bytes
 

@@ -1,6 +1,6 @@
 -- What each way through the questions shows, and the examples of the layout. Assumes nothing.
 use mathlib.Core.Path.{◌≡◌, refl, ◌∙◌}
-use mathlib.Core.Logic.{inl, inr}
+use mathlib.Core.Logic.{◌⊎◌, inl, inr, ⊎_elim}
 use mathlib.Core.List.{List}
 use mathlib.Core.Bool.{cond}
 use Prim.Native.Nat.{ℕ, ◌+◌, ◌*◌, ◌≤◌, ◌<◌}
@@ -12,12 +12,13 @@ use Rattle.std.specs.Prelude.{Option, Some}
 use Rattle.basics.proofs.Choice.{by}
 use Rattle.locks.specs.Locks.{Sized, lock_page}
 use Rattle.locks.proofs.Lock.{sized_least, sized_most}
-use Rattle.image.specs.Layout.{size_of, Fits, byte, first_settings, pwd_page, region_of, TheTable}
+use Rattle.image.specs.Layout.{size_of, Fits, byte, page_at, store, first_settings, pwd_page, region_of, TheTable}
 use Rattle.image.specs.Uid.{uid, bcc0, bcc1, UidExample}
-use Rattle.image.specs.Write.{written_in, written}
+use Rattle.image.specs.Write.{written_in, written, write}
 use Rattle.image.specs.Tail.{counter_in, next_count, counted}
 use Rattle.image.specs.declared.layout.Four.{Four}
-use Rattle.image.specs.declared.layout.Region.TheVariants.{StaticLocks, Capability, User, DynamicLocks, Settings, Password, Outside}
+use Rattle.image.specs.declared.layout.Region.{Region}
+use Rattle.image.specs.declared.layout.Region.TheVariants.{Uid, StaticLocks, Capability, User, DynamicLocks, Settings, Password, Outside}
 
 -- ---- sizes
 
@@ -73,7 +74,25 @@ pub replaced : (n p : ℕ) (old d : Four) → region_of n p ≡ User → written
 unfolding written written_in
 replaced n p old d e = rw e
 
+-- a store of the bytes themselves is a WRITE, in each region but those of the locks and of the capability container
+pub write_replaces : (n p : ℕ) (img img' : List ℕ) (d : Four) (region : Region) → region ≡ region_of n p
+    → (region ≡ Uid) ⊎ ((region ≡ User) ⊎ ((region ≡ Settings) ⊎ ((region ≡ Password) ⊎ (region ≡ Outside)))) → img' ≡ store img p d → img' ≡ write n img p d
+unfolding write written written_in
+write_replaces n p img img' d region e k h =
+    ⊎_elim
+    (by Uid (λ old. refl))
+    (⊎_elim (by User (λ old. refl)) (⊎_elim (by Settings (λ old. refl)) (⊎_elim (by Password (λ old. refl)) (by Outside (λ old. refl)))))
+    k
+  where
+    by : (region' : Region) → ((old : Four) → d ≡ written_in region' n old d) → region ≡ region' → img' ≡ write n img p d
+    by region' same f = rw (← e, f, ← same (page_at img p)) h
+
 -- ---- the counter
+
+-- a counter that is full stays
+pub count_stays : (c : ℕ) → 0xFFFFFF ≤ c → c ≡ next_count c
+unfolding next_count
+count_stays c l = simp (le-ltb c 0xFFFFFF l)
 
 pub next_not_less : (c : ℕ) → c ≤ next_count c
 unfolding next_count

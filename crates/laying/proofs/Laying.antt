@@ -1,7 +1,8 @@
 -- Laws of laying parts. Assumes nothing.
-use Rattle.std.proofs.Common.{◌≡◌, ℕ, ◌+◌, ◌*◌, ◌/◌, ◌%◌, ◌^◌, ◌<◌, ◌≤◌, List, [], ◌∷◌, ◌++◌, length, get_or, take, drop, refl, ap, sym, ◌∙◌, append_assoc, length-append, arith, rules, zero, suc, true, false, add-one}
+use Rattle.std.proofs.Common.{◌≡◌, ℕ, ◌+◌, ◌*◌, ◌/◌, ◌%◌, ◌^◌, ◌<◌, ◌≤◌, List, [], ◌∷◌, ◌++◌, length, get_or, take, drop, refl, ap, sym, ◌∙◌, append_assoc, append-nil, length-append, arith, rules, zero, suc, true, false, add-one}
 use Rattle.std.specs.Fmt.{decimal as std_decimal}
 use Rattle.std.proofs.lemmas.Fmt.{decimal_from_appends, AppendsLastDigit, length-decimal-le}
+use lib.ListN.{drop_of_length-le}
 use borrow.Author.Count.{below_more}
 use Rattle.std.proofs.lemmas.List.{take_more, at_drop_more, take-append-drop, take_all, get_or-set_same, get_or-set_other}
 use Rattle.std.proofs.Math.ListN.{set, length-set}
@@ -20,6 +21,12 @@ decimal_appends = search rules
 pub decimal_is : (n : ℕ) → n < 2 ^ 64 → decimal n ≡ std_decimal n
 unfolding decimal
 decimal_is n small = decimal_from_appends decimal_in decimal_appends 20 n small (length-decimal-le 20 n (omega arith) (omega arith) small)
+
+-- ---- runs of bytes
+
+-- a text that `basics::copy` laid over a part as long as it is
+pub copied : (s part m : List ℕ) → length m ≤ length s → part ≡ s ++ drop (length s) m → part ≡ s
+copied s part m h e = e ∙ ap (λ (x : List ℕ). s ++ x) (drop_of_length-le m h) ∙ append-nil s
 
 -- ---- hex
 

@@ -7,15 +7,16 @@ use mathlib.Core.Bool.{Bool, true, false, cond, ◌&&◌}
 use Prim.Native.Nat.{ℕ, zero, suc, ◌+◌, ◌-◌, ◌*◌, ◌/◌, ◌≤◌, ◌<◌}
 use native.Mathlib.Omega.{arith}
 use native.Mathlib.Nat.{add-zero, zero-add, add-suc, suc-add, le_of_suc-le-suc, not-suc-le-zero}
-use lib.ListN.{length, get_or}
-use mathlib.Core.List.{List}
+use lib.ListN.{length, get_or, get_or-append}
+use Rattle.std.proofs.lemmas.List.{get_or-append_right}
+use mathlib.Core.List.{List, ◌++◌}
 use lib.Dec.{leb, ltb, eqb}
-use borrow.Author.Tests.{ltb-true, eqb-true, eq-eqb, lt-ltb, le-ltb, le-leb, lt-leb}
+use borrow.Author.Tests.{ltb-true, ltb-false, eqb-true, eq-eqb, lt-ltb, le-ltb, le-leb, lt-leb}
 use Rattle.basics.proofs.Choice.{by}
 use Rattle.locks.proofs.Bits.{of_bits_zeros}
 use Rattle.locks.specs.Bits.{bit_at, is_set, Gains, of_bits}
 use Rattle.locks.specs.Locks.{Sized, lock_page, lock_bits, pages_each, dynamic_block, lock_of, bit_of, set_in, locked_by, clear_at, may_dynamic}
-use Rattle.locks.specs.Table.{first_page, last_page, block_bit, row_for, rows_from, rows_for, Covers}
+use Rattle.locks.specs.Table.{first_page, last_page, block_bit, row_for, row_at, first_row, rows_from, rows_for, InOrder, Covers}
 use Rattle.locks.specs.declared.Row.{Row}
 use Rattle.locks.specs.declared.LockBit.{LockBit}
 use Rattle.locks.specs.declared.LockBit.TheVariants.{Static, Dynamic}
@@ -52,6 +53,48 @@ rows_count n = rows_length n 0 (lock_bits n)
 pub rows_are : (n i : ℕ) (other : Row) → i < lock_bits n → get_or (rows_for n) i other ≡ row_for n i
 unfolding rows_for
 rows_are n i other l = rows_at n 0 (lock_bits n) i other l ∙ ap (row_for n) (zero-add i)
+
+-- the table of all three sizes: the rows of a size stand at its place in it
+of_size : (n i : ℕ) → Sized n → i < lock_bits n → row_at (first_row n + i) ≡ row_for n i
+unfolding row_at first_row lock_bits
+of_size n i s = by_size_lem (λ n. i < lock_bits n → row_at (first_row n + i) ≡ row_for n i) at45 at135 at231 s
+  where
+    at45 : i < 12 → row_at (0 + i) ≡ row_for 45 i
+    at45 l = let e : 0 + i ≡ i = omega arith in rw (e, lt-ltb i 12 l)
+
+    at135 : i < 8 → row_at (12 + i) ≡ row_for 135 i
+    at135 l =
+        let e : 12 + i - 12 ≡ i = omega arith in
+        rw (le-ltb (12 + i) 12 (omega arith), lt-ltb (12 + i) 20 (omega arith), e)
+
+    at231 : i < 14 → row_at (20 + i) ≡ row_for 231 i
+    at231 l =
+        let e : 20 + i - 20 ≡ i = omega arith in
+        rw (le-ltb (20 + i) 12 (omega arith), le-ltb (20 + i) 20 (omega arith), e)
+
+-- and that table is the three sizes' rows, one size behind the other
+in_place : (k : ℕ) (other : Row) → k < 34 → get_or (rows_for 45 ++ (rows_for 135 ++ rows_for 231)) k other ≡ row_at k
+unfolding row_at lock_bits
+in_place k other l =
+    let twelve : length (rows_for 45) ≡ 12 = rows_count 45 in
+    let eight : length (rows_for 135) ≡ 8 = rows_count 135 in
+    by (λ (r : Row). get_or (rows_for 45 ++ (rows_for 135 ++ rows_for 231)) k other ≡ r) (ltb k 12)
+    (λ a. let m : k < 12 = ltb-true k 12 a in get_or-append (rows_for 45) (rows_for 135 ++ rows_for 231) other k (rw twelve m) ∙ rows_are 45 k other m)
+    (λ a.
+    let m : 12 ≤ k = ltb-false k 12 a in
+    get_or-append_right (rows_for 45) (rows_for 135 ++ rows_for 231) 12 k other twelve m
+    ∙ by (λ (r : Row). get_or (rows_for 135 ++ rows_for 231) (k - 12) other ≡ r) (ltb k 20)
+    (λ b. let h = ltb-true k 20 b in
+    let below : k - 12 < 8 = omega arith in
+    get_or-append (rows_for 135) (rows_for 231) other (k - 12) (rw eight below) ∙ rows_are 135 (k - 12) other below)
+    (λ b. let h = ltb-false k 20 b in
+    let e : k - 12 - 8 ≡ k - 20 = omega arith in
+    let below : k - 20 < 14 = omega arith in
+    get_or-append_right (rows_for 135) (rows_for 231) 8 (k - 12) other eight (omega arith) ∙ ap (λ (i : ℕ). get_or (rows_for 231) i other) e
+    ∙ rows_are 231 (k - 20) other below))
+
+pub in_order : InOrder
+in_order = record { rows = in_place; of_size = of_size }
 
 -- a row that was looked up among them
 pub looked_up : (n i : ℕ) (rows : List Row) (r other : Row) → rows ≡ rows_for n → i < length rows → r ≡ get_or rows i other → r ≡ row_for n i

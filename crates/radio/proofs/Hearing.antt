@@ -1,7 +1,7 @@
 -- Which state hears a frame, and what each way through `hear` shows. Assumes nothing.
 use mathlib.Core.Path.{◌≡◌, refl, sym, ap, ◌∙◌, subst⁻¹}
 use mathlib.Core.List.{List, [], ◌∷◌}
-use mathlib.Core.Bool.{Bool, true, false, ◌&&◌}
+use mathlib.Core.Bool.{Bool, true, false, ◌&&◌, and-false}
 use Prim.Native.Nat.{ℕ, ◌+◌, ◌/◌}
 use native.Mathlib.Omega.{arith}
 use lib.Dec.{eqb}
@@ -62,6 +62,15 @@ module _ (f : List ℕ) (bits : ℕ) (parity : Bool) (whole : length f ≡ (bits
       (split (eqb bits 32) (λ e. let b = eqb-true _ _ e in rw e (split (eqb (get_or f 0 0) 0x30) (λ x. rw x
       (split (eqb (get_or f 1 0) 0x00) (λ y. rw (y, crc_zero f (omega arith) (eqb-true _ _ x) (eqb-true _ _ y), turned 0xA802) (and_turned parity _)) (λ y. rw y)))
       (λ x. rw x))) (λ e. rw e))
+
+-- a frame of another code, or for another address, is none
+pub read_code_lem : (f : List ℕ) (bits : ℕ) (parity : Bool) (k : ℕ) → k ≡ low_first (get_or f 0 0) (get_or f 1 0) → (k ≡ 0x0030 → ⊥) → false ≡ is_read_zero f bits parity
+unfolding is_read_zero
+read_code_lem f bits parity k q ne =
+    split (eqb (get_or f 0 0) 0x30)
+    (λ y. let a = eqb-true (get_or f 0 0) 0x30 y in
+    rw (a, ne_eqb (get_or f 1 0) 0x00 (λ z. ne (omega arith))) (sym (and-false (eqb bits 32))))
+    (λ y. rw y (sym (and-false (eqb bits 32))))
 
 -- ---- the state in which a frame is heard
 

@@ -26,7 +26,7 @@ use Rattle.tag.specs.State.{authenticated}
 use Rattle.tag.specs.Outcome.{build, bits_of, Does, nak, says}
 use Rattle.reads.specs.Read.{bound, seen, page_byte, pages_by, pages_from, counting, read_answered, read, fast_read}
 use Rattle.reads.specs.Mirrored.{none, without, Alike, Mirrored, Untouched}
-use Rattle.reads.proofs.Laws.{length_pages}
+use Rattle.reads.proofs.Laws.{length_pages, unmirrored_pages}
 
 get_build : (f : ℕ → ℕ) (k j : ℕ) → j < k → get_or (build f k) j 0 ≡ f j
 get_build f zero j l = absurd (not-suc-le-zero l)
@@ -81,10 +81,6 @@ module _ (n : ℕ) (img : List ℕ) (p k : ℕ) where
       (λ _. refl)
 
 module _ (n : ℕ) (img : List ℕ) (t : Tag) where
-  unmirrored : mirror_for n img (authenticated t) ≡ None → (a b count : ℕ) → pages_from n img t a b count ≡ pages_by (shown n img) a b count
-  unfolding seen through
-  unmirrored e a b count = ap (λ (o : Option Mirror). pages_by (through n img o) a b count) e
-
   at : (a b count j : ℕ) → j < 4 * count → get_or (pages_from n img t a b count) j 0 ≡ through n img (mirror_for n img (authenticated t)) ((a + j / 4) % b) (j % 4)
   unfolding pages_by page_byte seen
   at a b count j l = get_build _ (4 * count) j l
@@ -101,7 +97,7 @@ module _ (n : ℕ) (img : List ℕ) (t : Tag) where
     in_user_pages = in_user_pages_lem n img (authenticated t);
     character = character_lem _ refl;
     other = λ a b count j l h. at a b count j l ∙ outside n img ((a + j / 4) % b) (j % 4) _ h;
-    as_before = λ e a b count. unmirrored e a b count;
+    as_before = λ e a b count. sym (unmirrored_pages n a b count img t (rw e tt));
   }
 
 -- ---- the rest of a READ
