@@ -9,9 +9,9 @@ use crate::word::{Arg, Numeral, bytes_in, number_in, word_end};
 
 // What an argument is: a number; one of two words, the first as 0 and the second as 1; bytes, at most so many; bytes, or `-` for none.
 #[derive(Clone, Copy)]
-pub enum Kind {
+pub enum Kind<'a> {
     Number(Numeral),
-    Either(&'static [u8], &'static [u8]),
+    Either(&'a [u8], &'a [u8]),
     Hex(u32),
     Dashed(u32),
 }
@@ -62,10 +62,10 @@ fn dashed_in(word: &[u8], bytes: &mut [u8], at: usize, most: u32) -> Option<Arg>
 
 // The argument that a word is. Its bytes are laid at `at`.
 #[tactic(auto, unfolding(crate::specs::Args::value_of))]
-fn arg_of(kind: Kind, word: &[u8], bytes: &mut [u8], at: usize) -> Option<Arg>
+fn arg_of(kind: Kind<'_>, word: &[u8], bytes: &mut [u8], at: usize) -> Option<Arg>
     requires { at + room_of (form_of kind) ≤ length bytes.old }
-    ensures arg_fits { ArgFits (most_of (form_of kind)) (at + room_of (form_of kind)) result }
-    ensures bytes_after { reads result bytes.new ≡ behind (take at bytes.old) (value_of (form_of kind) word.now) }
+    ensures arg_fits { ArgFits (most_of (form_of kind.entry)) (at + room_of (form_of kind.entry)) result }
+    ensures bytes_after { reads result bytes.new ≡ behind (take at bytes.old) (value_of (form_of kind.entry) word.now) }
 {
     match kind {
         Kind::Number(numeral) => Some(Arg {
@@ -85,7 +85,7 @@ fn arg_of(kind: Kind, word: &[u8], bytes: &mut [u8], at: usize) -> Option<Arg>
 #[tactic(auto, using(crate::proofs::Arguing::bad_said, crate::proofs::Arguing::many_said, crate::proofs::Arguing::few_said))]
 pub fn gather(
     needed: usize,
-    kinds: &[Kind],
+    kinds: &[Kind<'_>],
     text: &[u8],
     bytes: &mut [u8],
 ) -> Result<Given, Refusal>
@@ -121,7 +121,7 @@ pub fn gather(
 // The arguments of a line of at most `longest` characters whose first word has this row, or none.
 #[tactic(auto, using(crate::proofs::Tables::long_said))]
 pub fn args_of<V: Copy>(
-    row: Option<&Row<V>>,
+    row: Option<&Row<'_, V>>,
     longest: usize,
     text: &[u8],
     bytes: &mut [u8],

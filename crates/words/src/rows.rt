@@ -11,11 +11,11 @@ use crate::word::word_end;
 
 // A command: its word, its verb, how many of its arguments must be there, and what each is.
 #[derive(Clone, Copy)]
-pub struct Row<V> {
-    pub word: &'static [u8],
+pub struct Row<'a, V> {
+    pub word: &'a [u8],
     pub verb: V,
     pub needed: usize,
-    pub kinds: &'static [Kind],
+    pub kinds: &'a [Kind<'a>],
 }
 
 // What a line asks for: a command, and its arguments. The bytes stand in a buffer beside it.
@@ -33,7 +33,7 @@ pub struct Refused<V> {
 }
 
 // The row of a word.
-fn row_of<'a, V: Copy>(table: &'a [Row<V>], word: &[u8]) -> Option<&'a Row<V>>
+fn row_of<'a, 'b, V: Copy>(table: &'a [Row<'b, V>], word: &[u8]) -> Option<&'a Row<'b, V>>
     ensures { option_copied result ≡ find (λ r. bytes_eq r.word.now word.now) table.now }
 {
     table.iter().find(|row| row.word == word)
@@ -41,7 +41,7 @@ fn row_of<'a, V: Copy>(table: &'a [Row<V>], word: &[u8]) -> Option<&'a Row<V>>
 
 // What a line of at most `longest` characters asks for.
 pub fn asked_of<V: Copy>(
-    table: &[Row<V>],
+    table: &[Row<'_, V>],
     longest: usize,
     text: &[u8],
     bytes: &mut [u8],
