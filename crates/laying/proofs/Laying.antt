@@ -1,9 +1,12 @@
 -- Laws of laying parts. Assumes nothing.
-use Rattle.std.proofs.Common.{◌≡◌, ℕ, ◌+◌, ◌*◌, ◌/◌, ◌%◌, ◌^◌, ◌<◌, ◌≤◌, List, [], ◌∷◌, ◌++◌, length, get_or, take, drop, refl, ap, sym, ◌∙◌, append_assoc, append-nil, length-append, arith, rules, zero, suc, true, false, add-one}
+use Rattle.std.proofs.Common.{◌≡◌, ℕ, ◌+◌, ◌-◌, ◌*◌, ◌/◌, ◌%◌, ◌^◌, ◌<◌, ◌≤◌, List, [], ◌∷◌, ◌++◌, length, get_or, take, drop, refl, ap, sym, ◌∙◌, append_assoc, append-nil, length-append, arith, rules, zero, suc, true, false, add-one}
 use Rattle.std.specs.Fmt.{decimal as std_decimal}
 use Rattle.std.proofs.lemmas.Fmt.{decimal_from_appends, AppendsLastDigit, length-decimal-le}
-use lib.ListN.{drop_of_length-le}
+use lib.ListN.{drop_of_length-le, length-take}
+use lib.Seq.{length-take-le}
+use borrow.Rule.Slice.PartMut.{put_mid}
 use borrow.Author.Count.{below_more}
+use Rattle.std.proofs.lemmas.Slice.{take-put_mid}
 use Rattle.std.proofs.lemmas.List.{take_more, at_drop_more, take-append-drop, take_all, get_or-set_same, get_or-set_other}
 use Rattle.std.proofs.Math.ListN.{set, length-set}
 use Rattle.std.proofs.Math.Seq.{take-suc-set}
@@ -27,6 +30,19 @@ decimal_is n small = decimal_from_appends decimal_in decimal_appends 20 n small 
 -- a text that `basics::copy` laid over a part as long as it is
 pub copied : (s part m : List ℕ) → length m ≤ length s → part ≡ s ++ drop (length s) m → part ≡ s
 copied s part m h e = e ∙ ap (λ (x : List ℕ). s ++ x) (drop_of_length-le m h) ∙ append-nil s
+
+-- the front of a text that `basics::copy` laid at a place of a buffer
+pub put_copied : (text out part : List ℕ) (at count : ℕ) → count ≤ length text → at + count ≤ length out
+    → part ≡ take (count - 0) (drop 0 text) ++ drop (length (take (count - 0) (drop 0 text))) (take (at + count - at) (drop at out))
+    → Laid (word (take count text)) (take at out) (take (at + count) (put_mid at (at + count - at) out part))
+put_copied text out part at count h k e =
+    let s = take (count - 0) (drop 0 text) in
+    let front : s ≡ take count text = ap (λ (n : ℕ). take n text) (let z : count - 0 ≡ count = omega arith in z) in
+    let few : length s ≡ count = ap length front ∙ length-take-le count text h in
+    let under : length (take (at + count - at) (drop at out)) ≤ length s = simp length-take (omega (arith, few)) in
+    let laid : part ≡ take count text = copied s part (take (at + count - at) (drop at out)) under e ∙ front in
+    let long : at + count ≡ at + length part = omega (arith, ap length laid, length-take-le count text h) in
+    record { front = take-put_mid at (at + count - at) out part (at + count) long (omega arith) ∙ ap (λ (x : List ℕ). take at out ++ x) laid }
 
 -- ---- hex
 

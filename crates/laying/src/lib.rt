@@ -3,6 +3,8 @@
 // has.
 #![tactic(auto)]
 
+pub mod slices;
+
 ghost use Rattle.std.specs.Prelude.{◌≡◌, [], ◌∷◌, ◌++◌, ◌+◌, ◌*◌, ◌<◌, ◌≤◌, cond, length, take};
 ghost use Rattle.arrayvec.specs.ArrayVec.{array_vec_len};
 ghost use Rattle.basics.specs.Hex.{hex_of};
