@@ -87,9 +87,10 @@ answer_front o bits lent part rest e h a =
     ∙ ap (take m) (append_assoc (answer_of o) (drop m lent) rest)
     ∙ take_at (answer_of o) (drop m lent ++ rest) m refl
 
-module _ (b w : Board) (same : w ≡ b) (part part' rest lent xs : List ℕ) (bits : ℕ) (good : Bool) (heard : radio.Answer)
-    (met : Met (called w.image (length lent) w.tag xs bits good) heard w.image part lent part') where
-  pub hear_done : (told : Answer) → length lent ≡ w.lent → AnswerFits told
+-- the bytes for the answer are as many as are lent, or k
+module _ (b w : Board) (same : w ≡ b) (part part' rest lent xs : List ℕ) (bits k : ℕ) (good : Bool) (heard : radio.Answer)
+    (met : Met (called w.image k w.tag xs bits good) heard w.image part lent part') where
+  pub hear_done : (told : Answer) → k ≡ w.lent → AnswerFits told
       → ((c : Called) (buf img : List ℕ) → heard.refused ≡ c.refused → heard.bits ≡ bits_of c.reply → take (bytes_in heard.bits) buf ≡ answer_of c.reply → tells told buf img ≡ call_told c)
       → (img : List ℕ) → img ≡ part
       → Acts (hears b bits xs good) (record { image = img; lent = w.lent; memory = w.memory; tag = heard.left; bus = w.bus }) told (part' ++ rest)
@@ -172,16 +173,17 @@ module _ (b w : Board) (same : w ≡ b) (mem : List ℕ) (room at n : ℕ) (is :
       ∙ sym (take-take n (room - at) (drop at mem) (omega (arith, l)))
       ∙ ap (take n) (sym cut)
 
-  pub recall_whole : (n ≡ 0 → ⊥) → at + n ≤ room → n ≤ 1024 → (part rest buf : List ℕ) → part ≡ take (at + n - at) (drop at mem) → buf ≡ part ++ rest
-      → Tells (recalls b.memory at n) b (answer.Recalled n) buf
+  pub recall_whole : (n ≡ 0 → ⊥) → at + n ≤ room → (part rest buf : List ℕ) → part ≡ take (at + n - at) (drop at mem) → buf ≡ part ++ rest
+      → told.recalled (take n buf) ≡ recalls b.memory at n
   unfolding recalls
-  recall_whole some l few part rest buf e f =
+  recall_whole some l part rest buf e f =
       let long : length part ≡ n = ap length (e ∙ within l) ∙ length-take-le n (drop at w.memory) (omega (arith, length-drop at w.memory, many, l)) in
       let front : take n buf ≡ take n (drop at w.memory) = ap (take n) f ∙ take_at part rest n long ∙ e ∙ within l in
-      record {
-        fits = few;
-        told = (λ i h. rw (← same, lt-ltb 0 n (omega (arith, some)), le-leb (at + n) (length w.memory) (omega (arith, many, l))) (ap told.recalled front));
-      }
+      rw (← same, lt-ltb 0 n (omega (arith, some)), le-leb (at + n) (length w.memory) (omega (arith, many, l))) (ap told.recalled front)
+
+  pub recall_told : (n ≡ 0 → ⊥) → at + n ≤ room → n ≤ 1024 → (part rest buf : List ℕ) → part ≡ take (at + n - at) (drop at mem) → buf ≡ part ++ rest
+      → Tells (recalls b.memory at n) b (answer.Recalled n) buf
+  recall_told some l few part rest buf e f = record { fits = few; told = (λ i h. recall_whole some l part rest buf e f) }
 
 -- ---- lines
 

@@ -1,3 +1,4 @@
 pub mod Bits
 pub mod Gains
 pub mod Lock
+pub mod Table

@@ -6,14 +6,14 @@ use Rattle.std.specs.Prelude.{Option, Some, None, is_some}
 use mathlib.Core.Bool.{Bool, true, false, cond, ◌&&◌}
 use Prim.Native.Nat.{ℕ, zero, suc, ◌+◌, ◌-◌, ◌*◌, ◌/◌, ◌≤◌, ◌<◌}
 use native.Mathlib.Omega.{arith}
-use native.Mathlib.Nat.{add-zero, zero-add, add-suc, suc-add, le_of_suc-le-suc, not-suc-le-zero}
 use lib.ListN.{length, get_or, get_or-append}
 use Rattle.std.proofs.lemmas.List.{get_or-append_right}
-use mathlib.Core.List.{List, ◌++◌}
+use mathlib.Core.List.{List, ◌∷◌, ◌++◌}
 use lib.Dec.{leb, ltb, eqb}
 use borrow.Author.Tests.{ltb-true, ltb-false, eqb-true, eq-eqb, lt-ltb, le-ltb, le-leb, lt-leb}
 use Rattle.basics.proofs.Choice.{by}
 use Rattle.locks.proofs.Bits.{of_bits_zeros}
+use Rattle.locks.proofs.Table.{rows, copy_at}
 use Rattle.locks.specs.Bits.{bit_at, is_set, Gains, of_bits}
 use Rattle.locks.specs.Locks.{Sized, lock_page, lock_bits, pages_each, dynamic_block, lock_of, bit_of, set_in, locked_by, clear_at, may_dynamic}
 use Rattle.locks.specs.Table.{first_page, last_page, block_bit, row_for, row_at, first_row, rows_from, rows_for, InOrder, Covers}
@@ -36,15 +36,14 @@ last_size s a b = ⊎_elim (λ e. absurd (a e)) (λ s. ⊎_elim (λ e. absurd (b
 
 -- ---- the row of a page
 
--- so many rows from i on: how many they are, and which stands at each place
+-- so many rows from i on are those that the rule makes: how many they are, and which stands at each place
+rows_made : (n i k : ℕ) → rows_from n i k ≡ rows (row_for n) i k
+rows_made n i zero = refl
+rows_made n i (suc k) = ap (λ (r : List Row). row_for n i ∷ r) (rows_made n (suc i) k)
+
 rows_length : (n i k : ℕ) → length (rows_from n i k) ≡ k
 rows_length n i zero = refl
 rows_length n i (suc k) = ap suc (rows_length n (suc i) k)
-
-rows_at : (n i k j : ℕ) (other : Row) → j < k → get_or (rows_from n i k) j other ≡ row_for n (i + j)
-rows_at n i zero j other h = absurd (not-suc-le-zero h)
-rows_at n i (suc k) zero other h = ap (row_for n) (sym (add-zero i))
-rows_at n i (suc k) (suc j) other h = rows_at n (suc i) k j other (le_of_suc-le-suc h) ∙ ap (row_for n) (suc-add i j ∙ sym (add-suc i j))
 
 pub rows_count : (n : ℕ) → length (rows_for n) ≡ lock_bits n
 unfolding rows_for
@@ -52,7 +51,7 @@ rows_count n = rows_length n 0 (lock_bits n)
 
 pub rows_are : (n i : ℕ) (other : Row) → i < lock_bits n → get_or (rows_for n) i other ≡ row_for n i
 unfolding rows_for
-rows_are n i other l = rows_at n 0 (lock_bits n) i other l ∙ ap (row_for n) (zero-add i)
+rows_are n i other l = copy_at (row_for n) (rows_from n 0 (lock_bits n)) (lock_bits n) i other (rows_made n 0 (lock_bits n)) l
 
 -- the table of all three sizes: the rows of a size stand at its place in it
 of_size : (n i : ℕ) → Sized n → i < lock_bits n → row_at (first_row n + i) ≡ row_for n i

@@ -134,6 +134,26 @@ module _ (n c : ℕ) (g : Region) (e : g ≡ region_of n c) where
   unfolding byte_at
   byte_shown o f img mem fit b i k = rw (← place_region fit.least, i, ← f) k
 
+  -- a byte of the data memory, of any length, is read as it stands
+  pub byte_stored : (o : ℕ) → o ≡ offset g.span place → (img mem : List ℕ) → Fits n img → g.buffer ≡ Memory → get_or mem o 0 ≡ byte_at n (both img mem) place
+  unfolding byte_at
+  byte_stored o f img mem fit i = rw (← place_region fit.least, i, ← f)
+
+  -- and that place lies in the region
+  pub place_below : (o : ℕ) → o ≡ offset g.span place → 45 ≤ n → o < g.span.length
+  place_below o f l = rw f (offset_below g.span place (place_within l))
+
+-- a read gives the byte that the counter counts as, and goes on to the next
+module _ (n : ℕ) (l : Lent) (r : BusRecord) (then : Phase) (s : BusStep) where
+  pub reads_on : (o b k : ℕ) (g : Region) (img : List ℕ) → g ≡ region_of n r.counter → o ≡ offset g.span (counted g.span r.counter) → Fits n img
+      → b ≡ byte_at n l (counted g.span r.counter) → k ≡ following g.span (g.span.first + o) → Says (enters (Byte b) r then k) s → Says (read_on then n l r) s
+  unfolding read_on
+  reads_on o b k g img e h fit f i says =
+      let m = first_at_most g.span (counted g.span r.counter) (place_within n r.counter g e fit.least) in
+      let there : g.span.first + o ≡ counted g.span r.counter = omega arith in
+      let next : k ≡ following g.span (counted g.span r.counter) = i ∙ ap (following g.span) there in
+      rw (← place_read n r.counter g e, ← f, ← place_region n r.counter g e fit.least, ← next) says
+
 -- what a read finds where what is lent is right; g is the counter's region
 module _ (n : ℕ) (img mem : List ℕ) (right : Right n (both img mem)) (r : BusRecord) (g : Region) (e : g ≡ region_of n r.counter) where
   abbrev a : ℕ
@@ -146,17 +166,8 @@ module _ (n : ℕ) (img mem : List ℕ) (right : Right n (both img mem)) (r : Bu
   fit : Fits n img
   fit = right_fits n img mem right
 
-  reads_at : a ≡ read_at n r.counter
-  reads_at = place_read n r.counter g e
-
-  read_within : within g.span a ≡ true
-  read_within = place_within n r.counter g e fit.least
-
-  read_region : g ≡ region_of n a
-  read_region = place_region n r.counter g e fit.least
-
   pub read_below : at < g.span.length
-  read_below = offset_below g.span a read_within
+  read_below = place_below n r.counter g e at refl fit.least
 
   pub read_ends : g.span.first + g.span.length ≤ 0xFFFF
   read_ends = region_ends n r.counter g e fit.most
@@ -168,22 +179,13 @@ module _ (n : ℕ) (img mem : List ℕ) (right : Right n (both img mem)) (r : Bu
       omega arith
 
   module _ (then : Phase) (s : BusStep) (b : ℕ) where
-    -- a read gives that byte, and goes on to the next
-    reads_on : b ≡ byte_at n (both img mem) a → Says (enters (Byte b) r then (following g.span (g.span.first + at))) s → Says (read_on then n (both img mem) r) s
-    unfolding read_on
-    reads_on i says =
-        let m = first_at_most g.span a read_within in
-        let there : g.span.first + at ≡ a = omega arith in
-        rw (← reads_at, ← i, ← read_region, ← there) says
-
     pub image_read : g.buffer ≡ Image → b ≡ shown n img (at / 4) (at % 4) → Says (enters (Byte b) r then (following g.span (g.span.first + at))) s
         → Says (read_on then n (both img mem) r) s
-    image_read i k = reads_on (byte_shown n r.counter g e at refl img mem fit b i k)
+    image_read i k = reads_on n (both img mem) r then s at b _ g img e refl fit (byte_shown n r.counter g e at refl img mem fit b i k) refl
 
     pub memory_read : g.buffer ≡ Memory → b ≡ get_or mem at 0 → Says (enters (Byte b) r then (following g.span (g.span.first + at))) s
         → Says (read_on then n (both img mem) r) s
-    unfolding byte_at
-    memory_read i k = reads_on (rw (← read_region, i) k)
+    memory_read i k = reads_on n (both img mem) r then s at b _ g img e refl fit (k ∙ byte_stored n r.counter g e at refl img mem fit i) refl
 
 -- ---- the gathered bytes
 

@@ -20,6 +20,10 @@ use Rattle.words.specs.declared.args.Refusal.{Refusal}
 use Rattle.words.specs.declared.args.Refusal.TheVariants as refusal
 use Rattle.words.specs.declared.args.Given.{Given}
 
+-- what an argument comes to, of a form that is known to be another
+pub kind_told_lem : (f f' : Form) → f ≡ f' → (v : Value) (front w : List ℕ) → v ≡ behind front (value_of f' w) → v ≡ behind front (value_of f w)
+kind_told_lem f f' e v front w h = h ∙ ap (λ (y : Form). behind front (value_of y w)) (sym e)
+
 -- ---- the next word
 
 module _ (w : List ℕ) (s stop : ℕ) (in_line : s ≤ length w) (e : stop ≡ s + word_end (drop s w)) where

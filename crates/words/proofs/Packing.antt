@@ -12,7 +12,7 @@ use Rattle.std.proofs.lemmas.Slice.Eq.{bytes_eq-Decides}
 use Rattle.basics.proofs.Choice.{and_left, and_right}
 use Rattle.words.specs.Pack.{pack, packed_of, all_bytes, readable}
 
-pack_some : (w : List ℕ) → 1 ≤ pack w
+pub pack_some : (w : List ℕ) → 1 ≤ pack w
 pack_some [] = omega arith
 pack_some (b ∷ r) = omega (arith, pack_some r)
 

@@ -24,6 +24,12 @@ end_found w s r e = e ∙ ap (λ (l : List ℕ). s + word_end (drop s l)) (take-
 pub more : (w : List ℕ) (i : ℕ) → i < length w → drop i w ≡ get_or w i 0 ∷ drop (i + 1) w
 more w i h = rw (add-one, drop-cons w i 0)
 
+-- and two by two
+pub two_more_lem : (w : List ℕ) (i : ℕ) → 2 * i + 1 < length w → drop (2 * i) w ≡ get_or w (2 * i) 0 ∷ get_or w (2 * i + 1) 0 ∷ drop (2 * (i + 1)) w
+two_more_lem w i h =
+    let p : 2 * i + 1 + 1 ≡ 2 * (i + 1) = omega arith in
+    more w (2 * i) (omega arith) ∙ ap (λ (r : List ℕ). get_or w (2 * i) 0 ∷ r) (more w (2 * i + 1) h ∙ ap (λ (k : ℕ). get_or w (2 * i + 1) 0 ∷ drop k w) p)
+
 -- ---- numbers, over the base, the digits and the limit
 
 -- a number with one more digit is no smaller, so that what is too large stays so

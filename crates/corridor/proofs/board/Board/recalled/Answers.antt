@@ -1,7 +1,7 @@
 -- `corridor::board::Board::recalled` meets its contract. Assumes nothing.
 use mathlib.Core.Path.{refl}
 use native.Mathlib.Omega.{arith}
-use Rattle.corridor.proofs.Laws.{recall_none, recall_past, recall_whole}
+use Rattle.corridor.proofs.Laws.{recall_none, recall_past, recall_told}
 use Rattle.corridor.proofs.board.Board.recalled.Goals as goal
 use Rattle.corridor.proofs.board.Board.recalled.Goals.{then-n-eq0-via-then-n-eq0, then-n-eq0-via-else-n-eq0+then-end-most}
 
@@ -14,4 +14,4 @@ returns-then-n-eq0 c =
 
 pub returns : goal.returns
 returns c =
-    recall_whole _ _ c.self.view_is _ _ _ _ refl (omega (arith, c.self.invariant, c.self.told)) c.if-n-eq0.false c.if-end-most.false c.requires.1 _ _ _ refl c.copy.ensures
+    recall_told _ _ c.self.view_is _ _ _ _ refl (omega (arith, c.self.invariant, c.self.told)) c.if-n-eq0.false c.if-end-most.false c.requires.1 _ _ _ refl c.copy.ensures
