@@ -87,7 +87,7 @@ answer_front o bits lent part rest e h a =
     ∙ ap (take m) (append_assoc (answer_of o) (drop m lent) rest)
     ∙ take_at (answer_of o) (drop m lent ++ rest) m refl
 
--- the bytes for the answer are as many as are lent, or k
+-- a frame that was heard with room for k bytes of an answer, where k is what the board lends
 module _ (b w : Board) (same : w ≡ b) (part part' rest lent xs : List ℕ) (bits k : ℕ) (good : Bool) (heard : radio.Answer)
     (met : Met (called w.image k w.tag xs bits good) heard w.image part lent part') where
   pub hear_done : (told : Answer) → k ≡ w.lent → AnswerFits told

@@ -61,14 +61,14 @@ stored : (text front : List ℕ) (to x : ℕ) → to < length text → take to t
 stored text front to x h e = ap (λ (k : ℕ). take k (set text to x)) (add-one to) ∙ take-suc-set text to x h ∙ ap (λ (l : List ℕ). l ++ (x ∷ [])) e
 
 -- the digits of one more byte are stored, its high one and then its low one
-pub pair_laid : (text bytes : List ℕ) (to next i high low : ℕ) → i < length bytes → to + 1 < length text → next ≡ to + 2
-    → high ≡ hex_char (get_or bytes i 0 / 16) → low ≡ hex_char (get_or bytes i 0 % 16) → take to text ≡ hex_of (take i bytes)
-    → take next (set (set text to high) (to + 1) low) ≡ hex_of (take (i + 1) bytes)
-pair_laid text bytes to next i high low below room step h l e =
+pub pair_laid : (text front bytes : List ℕ) (to next i high low : ℕ) → i < length bytes → to + 1 < length text → next ≡ to + 2
+    → high ≡ hex_char (get_or bytes i 0 / 16) → low ≡ hex_char (get_or bytes i 0 % 16) → take to text ≡ front ++ hex_of (take i bytes)
+    → take next (set (set text to high) (to + 1) low) ≡ front ++ hex_of (take (i + 1) bytes)
+pair_laid text front bytes to next i high low below room step h l e =
     let two : to + 1 < length (set text to high) = simp length-set (omega arith) in
     let one_on : next ≡ to + 1 + 1 = omega arith in
     rw one_on (
-    stored (set text to high) (hex_of (take i bytes) ++ (high ∷ [])) (to + 1) low two (stored text (hex_of (take i bytes)) to high (omega arith) e)
+    stored (set text to high) ((front ++ hex_of (take i bytes)) ++ (high ∷ [])) (to + 1) low two (stored text (front ++ hex_of (take i bytes)) to high (omega arith) e)
     ∙ rw (h, l, take_more bytes i 0 below, hex_append (take i bytes) (get_or bytes i 0 ∷ [])) (simp append_assoc)
     )
 

@@ -1,21 +1,21 @@
-// The same into any bytes that are lent, at any place in them, for a caller whose line doesn't stand in an `ArrayVec`: all that put something at a
-// place answer the place behind it, and what stands before the place stays.
+// Putting parts into any bytes that are lent, at any place in them, for a caller whose line doesn't stand in an `ArrayVec`: all that put something at
+// a place answer the place behind it, and what stands before the place stays.
 ghost use Rattle.std.specs.Prelude.{◌≡◌, ◌∷◌, [], ◌+◌, ◌*◌, ◌≤◌, length, take};
 ghost use Rattle.laying.specs.Parts.{word as Parts·word, flagged as Parts·flagged, number as Parts·number, four as Parts·four, hex as Parts·hex, tail as Parts·tail, letters_of, Laid, Line};
 
 use crate::Letters;
-use basics::{high_char, low_char};
+use basics::{copy, high_char, low_char};
 use itoa::Buffer;
 
 // The first `count` bytes of a text.
 pub fn put_front(out: &mut [u8], at: usize, text: &[u8], count: usize) -> usize
     requires count_in_bounds { count ≤ length text.now }
-    requires count_in_bounds_2 { at + count ≤ length out.old }
+    requires room { at + count ≤ length out.old }
     ensures value { result ≡ at + count }
     ensures laid { Laid (Parts·word (take count text.now)) (take at out.old) (take result out.new) }
 {
     let end = at + count;
-    out[at..end].copy_from_slice(&text[..count]);
+    copy(&text[..count], &mut out[at..end]);
     end
 }
 
@@ -29,7 +29,7 @@ pub fn put(out: &mut [u8], at: usize, text: &[u8]) -> usize
 
 pub fn put_letters(out: &mut [u8], at: usize, word: Letters) -> usize
     requires word_bound { word.0 ≤ 7 }
-    requires at_in_bounds { at + 7 ≤ length out.old }
+    requires room { at + 7 ≤ length out.old }
     ensures upper_bound { result ≤ at + 7 }
     ensures laid { Laid (Parts·word (letters_of word)) (take at out.old) (take result out.new) }
 {
@@ -45,16 +45,7 @@ pub fn put_flagged(out: &mut [u8], at: usize, text: &[u8], flag: bool) -> usize
     if flag { put(out, at, text) } else { at }
 }
 
-// A byte as two hex digits.
-fn put_pair(out: &mut [u8], at: usize, b: u8) -> usize
-    requires { at + 2 ≤ length out.old }
-    ensures value { result ≡ at + 2 }
-    ensures laid { Laid (Parts·hex (b ∷ [])) (take at out.old) (take result out.new) }
-{
-    put(out, at, &[high_char(b), low_char(b)])
-}
-
-// Each byte as two hex digits.
+// Each byte as two hex digits. Both are stored by their place, so that the compiler makes many at once.
 pub fn put_hex(out: &mut [u8], at: usize, bytes: &[u8]) -> usize
     requires { at + 2 * length bytes.now ≤ length out.old }
     ensures value { result ≡ at + 2 * length bytes.now }
@@ -62,7 +53,9 @@ pub fn put_hex(out: &mut [u8], at: usize, bytes: &[u8]) -> usize
 {
     let mut to = at;
     for b in bytes {
-        to = put_pair(out, to, *b);
+        out[to] = high_char(*b);
+        out[to + 1] = low_char(*b);
+        to += 2;
     }
     to
 }

@@ -1,4 +1,4 @@
-use Rattle.std.proofs.Common.{◌+◌, ◌*◌, ◌/◌, ◌%◌, get_or, arith}
+use Rattle.std.proofs.Common.{◌+◌, ◌*◌, ◌/◌, ◌%◌, [], get_or, arith}
 use Rattle.std.proofs.Math.ListN.{length-set}
 use Rattle.basics.specs.Hex.{hex_char}
 use Rattle.laying.proofs.Laying.{one_stored, pair_laid, all_made}
@@ -19,7 +19,7 @@ pub loop-k-preserved : goal.loop-k-preserved
 loop-k-preserved g c =
     let k = c.loop-k.k in
     record {
-      made = pair_laid c.loop-k.digits c.args.bytes.now (2 * k) (2 * (k + 1)) k _ _ (omega arith) (omega arith) (omega arith)
+      made = pair_laid c.loop-k.digits [] c.args.bytes.now (2 * k) (2 * (k + 1)) k _ _ (omega arith) (omega arith) (omega arith)
           (c.loop-i.invariant.high k (omega arith)) (c.loop-i.invariant.low k (omega arith)) c.loop-k.invariant.made;
       len = simp length-set c.loop-k.invariant.len;
     }

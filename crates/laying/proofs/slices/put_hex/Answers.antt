@@ -1,10 +1,13 @@
-use Rattle.std.proofs.Common.{rules, arith}
-use Rattle.laying.proofs.Laying.{one_more}
+use Rattle.std.proofs.Common.{arith}
+use Rattle.std.proofs.Math.ListN.{length-set}
+use Rattle.laying.proofs.Laying.{pair_laid}
 use Rattle.laying.proofs.slices.put_hex.Goals as goal
 
 pub loop-b-preserved : goal.loop-b-preserved
-loop-b-preserved c = record {
-  place = omega (arith, c.put_pair-to.ensures.value, c.loop-b.invariant.place);
-  laid = one_more _ _ _ _ c.loop-b.b-index c.loop-b-test.true c.loop-b.invariant.laid c.put_pair-to.ensures.laid.front;
-  len = search rules;
-}
+loop-b-preserved c =
+    let sofar = c.loop-b.invariant in
+    record {
+      place = omega (arith, sofar.place);
+      laid = pair_laid _ _ _ _ _ c.loop-b.b-index _ _ c.loop-b-test.true (omega arith) (omega arith) c.high_char.ensures c.low_char.ensures sofar.laid;
+      len = simp length-set sofar.len;
+    }
