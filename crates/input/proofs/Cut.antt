@@ -58,6 +58,10 @@ module _ (buffer bytes : List ℕ) (len count : ℕ) (whole : length buffer ≡ 
 pub line_few : (buffer : List ℕ) (len : ℕ) → len ≤ line_room → length (take len buffer) ≤ line_room
 line_few buffer len fits = simp length-take (omega (arith, fits))
 
+-- what is kept of a line has room
+pub kept_few : (l new : List ℕ) → new ≡ kept l → length new ≤ line_room
+kept_few l new e = let q : length new ≡ length (kept l) = ap length e in omega (arith, q, length-take line_room l)
+
 -- ---- what is ahead: how much it is
 
 pub ahead_length : (chunk : List ℕ) (at end : ℕ) → end ≤ length chunk → length (slice at end chunk) ≡ end - at

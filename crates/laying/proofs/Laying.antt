@@ -99,6 +99,13 @@ pub one_more : (bytes start before after : List ℕ) (i : ℕ) → i < length by
 one_more bytes start before after i below b a =
     rw (a, b, take_more bytes i 0 below, hex_append (take i bytes) (get_or bytes i 0 ∷ [])) (append_assoc start (hex_of (take i bytes)) (hex_of (get_or bytes i 0 ∷ [])))
 
+-- and so it is by its high digit, and then its low one
+pub hex_more : (bytes start before mid after : List ℕ) (i high low : ℕ) → i < length bytes → before ≡ start ++ hex_of (take i bytes)
+    → high ≡ hex_char (get_or bytes i 0 / 16) → low ≡ hex_char (get_or bytes i 0 % 16) → mid ≡ before ++ high ∷ [] → after ≡ mid ++ low ∷ []
+    → after ≡ start ++ hex_of (take (i + 1) bytes)
+hex_more bytes start before mid after i high low below b h l m a =
+    one_more bytes start before after i below b (rw (a, m, h, l) (append_assoc before (hex_char (get_or bytes i 0 / 16) ∷ []) (hex_char (get_or bytes i 0 % 16) ∷ [])))
+
 -- ---- parts
 
 length-decimal_in-le : (most n : ℕ) → length (decimal_in most n) ≤ most

@@ -15,13 +15,14 @@ use Rattle.std.proofs.lemmas.Slice.Eq.{bytes_eq-Decides}
 use Rattle.basics.proofs.Choice.{split}
 use Rattle.words.proofs.Arguing.{looked_up}
 use Rattle.words.specs.Word.{word_end, first_of}
-use Rattle.words.specs.Args.{form_of, Said, long, argued, forms_of, said_by, room_for, GivenFits}
-use Rattle.words.specs.Rows.{Named, asks, row_in, Command, argued_by, said_in, command_of, command_in, rows_of, CommandFits, TableFits, verb_by, verb_in, Asks, ByWord}
+use Rattle.words.specs.Args.{Form, form_of, Said, long, argued, forms_of, said_by, room_for, GivenFits}
+use Rattle.words.specs.Rows.{Named, asks, row_in, Command, argued_by, said_in, command_of, command_in, rows_of, CommandFits, TableFits, given_of, verb_by, verb_in, Asks, ByWord}
 use Rattle.words.specs.declared.args.Refusal.{Refusal}
 use Rattle.words.specs.declared.args.Refusal.TheVariants as refusal
 use Rattle.words.specs.declared.args.Given.{Given}
 use Rattle.words.specs.declared.rows.Row.{Row}
 use Rattle.words.specs.declared.rows.Asked.{Asked}
+use Rattle.words.specs.declared.rows.Refused.{Refused}
 
 infixr 4 ◌and◌
 pub ◌and◌ : {A B : Type 0} → A → B → A × B
@@ -160,7 +161,19 @@ module _ {V : Type 0} (table : List (Row V)) (text : List ℕ) where
       let e : a.verb ≡ r.now.verb = cc in
       subst⁻¹ (λ (c : Option (Command V)). Asks c a) found.row (e, h.0, g)
 
+-- what the arguments of a command are, or why they are none
+pub refused_said : {V : Type 0} (x : Result (Asked V) (Refused V)) (y : Result Given Refusal) (e : Refused V) (ys : List ℕ) (s : Said) → x ≡ Err e → y ≡ Err e.refusal
+    → said_by y ys ≡ s → said_by (given_of x) ys ≡ s
+refused_said x y e ys s f g h = ap (λ (z : Result (Asked _) (Refused _)). said_by (given_of z) ys) f ∙ ap (λ (z : Result Given Refusal). said_by z ys) (sym g) ∙ h
+
+pub allowed : (fs : List Form) (y : Result Given Refusal) (x : Given) → y ≡ Ok x → IfOk y (λ g. GivenFits fs g) → GivenFits fs x
+allowed fs y x e h = subst (λ (z : Result Given Refusal). IfOk z (λ g. GivenFits fs g)) e h
+
 -- ---- what a program knows of what was asked for
+
+pub asked_verb : {V : Type 0} (other : V) (row : Option (Command V)) (a : Asked V) → Asks row a → a.verb ≡ verb_in other row
+asked_verb other None a h = absurd h
+asked_verb other (Some c) a h = h.0
 
 -- the verb of a command, or the one that stands where there is none
 pub verb_or_other : {V : Type 0} (other : V) (row : Option (Command V)) → unwrap_or (verb_by row) other ≡ verb_in other row
